@@ -1,0 +1,2 @@
+// Fields of bits: how they are read from a payload and written to one, and why one is refused.
+pub mod fault;
