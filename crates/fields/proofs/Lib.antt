@@ -1,0 +1,9 @@
+pub mod Numbers
+pub mod Windows
+pub mod Steps
+pub mod Golomb
+pub mod Closes
+pub mod Words
+pub mod Laid
+pub mod Fields
+pub mod Sheets

@@ -1,2 +1,6 @@
+pub mod Bits
 pub mod Faults
 pub mod Frames
+pub mod Layout
+pub mod Reading
+pub mod Writing
