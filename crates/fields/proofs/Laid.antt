@@ -12,7 +12,7 @@ use lib.Pow.{pow-pos, pow-mono}
 use Rattle.std.proofs.shelf.Bits.{one-shl, shl-whole, shl-below, shr-below}
 use Rattle.fields.specs.Bits.{word, bitsOf}
 use Rattle.fields.specs.Writing.{laid}
-use Rattle.fields.proofs.Numbers.{length-word, length-bits}
+use Rattle.fields.proofs.Numbers.{length-word, length-bits, bits-cons}
 use Rattle.fields.proofs.Words.{word-split, word-join, word-mod}
 
 module _ {A : Type 0} where
@@ -49,11 +49,6 @@ module _ {A : Type 0} where
       let t = take-append-le p all bs (omega arith) in
       let d = drop-append-le (p + length xs) all bs h in
       (λ i. t i ++ (xs ++ d i)) ∙ sym e
-
--- a byte of several
-bits-cons : (b : ℕ) (bs : List ℕ) → bitsOf (b ∷ bs) ≡ word 8 b ++ bitsOf bs
-unfolding bitsOf
-bits-cons b bs = refl
 
 -- bits that are laid over a byte of several
 pub bits-set : (bs : List ℕ) (i k b : ℕ) (xs : List Bool) → i < length bs → k + length xs ≤ 8 → word 8 b ≡ laid k xs (word 8 (getD bs i 0)) → bitsOf (set bs i b) ≡ laid (8 * i + k) xs (bitsOf bs)

@@ -7,3 +7,5 @@ pub mod Words
 pub mod Laid
 pub mod Fields
 pub mod Sheets
+pub mod Layouts
+pub mod Records
