@@ -9,3 +9,4 @@ pub mod Fields
 pub mod Sheets
 pub mod Layouts
 pub mod Records
+pub mod Extents

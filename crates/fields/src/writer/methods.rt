@@ -15,6 +15,7 @@ impl<'a> Writer<'a> {
     pub fn new(bytes: &'a mut [u8]) -> Writer<'a>
         ensures place { λ r. ⌜ r .at ≡ 0 ⌝ }
         ensures bytes { λ r. ⌜ now (r .bytes) ≡ now (bytes .entry) ⌝ }
+        ensures lent { λ r. ⌜ name (r .bytes) ≡ name (bytes .entry) ⌝ }
     {
         Writer { bytes, at: 0 }
     }
