@@ -1,3 +1,6 @@
-pub mod Faults
-pub mod Record
+pub mod ContentLightLevel
 pub mod Cubemap
+pub mod DisplayOrientation
+pub mod Faults
+pub mod Period
+pub mod Record

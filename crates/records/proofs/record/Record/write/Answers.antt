@@ -1,10 +1,11 @@
-use mathlib.Core.Path.{_≡_, refl, sym, ap, _∙_}
+use mathlib.Core.Path.{ap}
 use mathlib.Core.List.{List}
 use native.Mathlib.Omega.{arith}
 use borrow.Author.Needs.{needs}
-use Prim.Native.Nat.{ℕ}
+use Prim.Native.Nat.{ℕ, _≤_}
 use Rattle.std.specs.declared.result.Result.{Result}
 use Rattle.fields.specs.declared.fault.ShortBuffer.{ShortBuffer}
+use Rattle.fields.specs.Payloads.{size}
 use Rattle.fields.specs.Writing.{sheet}
 use Rattle.records.proofs.Whole.{reads-back, written-short, written-whole}
 use Rattle.records.proofs.record.Record.write.Needs as need
@@ -14,13 +15,12 @@ returns-then-len-buffer g c =
     let l = g .Self·Record .layout in
     let vs = g .Self·Record .numbers (c .args .self .now) in
     let holds = c .payload-len-len .ensures .holds in
-    let short = g .Self·Record·met .short vs holds in
-    let limited = g .Self·Record·met .limited in
-    let w = written-short l vs holds (omega arith) (c .args .buffer .now) (omega arith) in
+    let short : size l vs ≤ 65535 = omega (arith, g .Self·Record·met .short vs holds, g .Self·Record·met .limited) in
+    let w = written-short l vs holds short (c .args .buffer .now) (omega arith) in
     record {
       answer = ap (λ (x : Result ℕ ShortBuffer × List ℕ). x .0) w;
       bytes = ap (λ (x : Result ℕ ShortBuffer × List ℕ). x .1) w;
-      reads = reads-back l vs holds (omega arith)
+      reads = reads-back l vs holds short
     }
 
 pub returns : need.returns
@@ -28,11 +28,10 @@ returns g c =
     let l = g .Self·Record .layout in
     let vs = g .Self·Record .numbers (c .args .self .now) in
     let holds = c .payload-len-len .ensures .holds in
-    let short = g .Self·Record·met .short vs holds in
-    let limited = g .Self·Record·met .limited in
-    let w = written-whole l vs holds (omega arith) (c .args .buffer .now) _ (c .payload-len-len .result) (sheet (c .new-writer .result)) _ (c .payload-len-len .ensures .value) (omega arith) (λ i. search needs) (λ i. omega (arith, c .typed .buffer i)) (search needs) (c .encode .ensures .after) (search needs) in
+    let short : size l vs ≤ 65535 = omega (arith, g .Self·Record·met .short vs holds, g .Self·Record·met .limited) in
+    let w = written-whole l vs holds short (c .args .buffer .now) _ (c .payload-len-len .result) (sheet (c .new-writer .result)) _ (c .payload-len-len .ensures .value) (omega arith) (λ i. search needs) (λ i. omega (arith, c .typed .buffer i)) (search needs) (c .encode .ensures .after) (search needs) in
     record {
       answer = ap (λ (x : Result ℕ ShortBuffer × List ℕ). x .0) w;
       bytes = ap (λ (x : Result ℕ ShortBuffer × List ℕ). x .1) w;
-      reads = reads-back l vs holds (omega arith)
+      reads = reads-back l vs holds short
     }
