@@ -1,3 +1,5 @@
 pub mod Faults
-pub mod Outcome
 pub mod Model
+pub mod Outcome
+pub mod Single
+pub mod Singles

@@ -1,9 +1,11 @@
 // What an offer and a look at a kind answer.
 ghost use mathlib.Core.Path.{_≡_};
 ghost use Rattle.kinds.specs.declared.fault.OfferFault.the-variants.{Payload as PayloadCase};
+ghost use Rattle.kinds.specs.declared.fault.LookFault.the-variants.{ShortBuffer as ShortCase};
 ghost use Rattle.kinds.specs.Faults.{offerNumber, offerLayer, offerPlace, lookNumber, lookLayer, lookPlace};
 use fields::fault::Fault;
 use fields::fault::Layer;
+use fields::fault::ShortBuffer;
 use records::fault::PayloadFault;
 use records::fault::PayloadFaultDebug;
 use records::fault::PayloadFaultFault;
@@ -76,6 +78,14 @@ pub enum LookFault {
     Missing,
     // the buffer is too short for it
     ShortBuffer,
+}
+
+pub impl From<ShortBuffer> for LookFault as LookFaultFromShort {
+    ghost converts = { λ _ r. r ≡ ShortCase };
+
+    fn from(_fault: ShortBuffer) -> LookFault {
+        LookFault::ShortBuffer
+    }
 }
 
 pub impl Fault for LookFault as LookFaultFault {

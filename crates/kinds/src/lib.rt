@@ -1,3 +1,6 @@
 // Kinds of messages: what is in force of each, what a message does to it, and the payloads that bring it back.
+pub mod content;
 pub mod fault;
+pub mod in_force;
 pub mod kind;
+pub mod single;
