@@ -11,7 +11,7 @@ use lib.Pow.{pow-mono}
 use lib.ListN.{length, length-append, length-replicate}
 use Rattle.std.proofs.shelf.Tests.{leb-true, cases-bool, cases-lt}
 use borrow.Author.Tests.{clash}
-use Rattle.fields.specs.Layout.{Verdict, fine, outOfRange, u, ue, within, coded, codedUe, atMost, Layout, close, extension, reserved, field, flag, unless, extent, Holds}
+use Rattle.fields.specs.Layout.{Verdict, fine, outOfRange, u, ue, within, coded, codedUe, atMost, Layout, close, extension, reserved, field, flag, unless, cancelable, extent, Holds}
 use Rattle.fields.proofs.Numbers.{length-word}
 use Rattle.fields.proofs.Fields.{ue-code, top-of}
 
@@ -38,6 +38,9 @@ takes-flag n l t = takes-u 1 n (λ v. l (eqb v 1)) (λ v. t (eqb v 1))
 pub takes-unless : (n : ℕ) (l : Layout) → Takes l n → (b : Bool) → Takes (unless b l) n
 takes-unless n l t true vs h = omega (arith, takes-close vs h)
 takes-unless n l t false vs h = t vs h
+
+pub takes-cancelable : (n : ℕ) (l : Layout) → Takes l n → Takes (cancelable l) (1 + n)
+takes-cancelable n l t = takes-flag n (λ cancel. unless cancel l) (takes-unless n l t)
 
 fine-most : (m v : ℕ) → atMost m v ≡ fine → v ≤ m
 fine-most m v e = ⊎-elim (λ b. leb-true v m b) (λ b. let f : outOfRange ≡ fine = rw b at e in let z : _≡_ {A = ℕ} 0 1 = cc in absurd (omega arith)) (cases-bool (leb v m))

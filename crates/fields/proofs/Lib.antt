@@ -10,3 +10,4 @@ pub mod Sheets
 pub mod Layouts
 pub mod Records
 pub mod Extents
+pub mod Framed

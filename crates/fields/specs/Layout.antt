@@ -133,6 +133,10 @@ flag more = field (u 1) (λ n. more (eqb n 1))
 abbrev pub unless : Bool → Layout → Layout
 unless b l = cond b close l
 
+-- a cancel bit, and where it is 0 what follows
+abbrev pub cancelable : Layout → Layout
+cancelable more = flag λ cancel. unless cancel more
+
 -- the numbers of a record, field after field, or why the payload is refused
 abbrev pub reads : Layout → Left → Result (List ℕ) FieldFault
 reads close s = andThen (closes s) (λ _. Ok [])

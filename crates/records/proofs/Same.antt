@@ -1,11 +1,13 @@
--- Records are equal where their fields are.
+-- Records are equal where their fields are, since a fact in a ghost field has one proof at most.
 use mathlib.Core.Path.{_≡_}
 use mathlib.Core.Bool.{Bool}
-use mathlib.Core.HLevel.{isProp→PathP}
+use mathlib.Core.HLevel.{isProp→PathP, ×-prop}
 use native.Mathlib.Bridge.{le-prop}
 use native.Mathlib.Omega.{arith}
-use Prim.Native.Nat.{_≤_}
+use Prim.Native.Nat.{_^_, _<_, _≤_}
 use Rattle.fields.specs.Bits.{bit}
+use Rattle.records.specs.declared.content_light_level.ContentLightLevel.{ContentLightLevel}
+use Rattle.records.specs.declared.display_orientation.DisplayOrientation.{DisplayOrientation}
 use Rattle.records.specs.declared.period.Period.{Period}
 
 pub bit-same : (a b : Bool) → bit a ≡ bit b → a ≡ b
@@ -13,3 +15,19 @@ bit-same a b e = grind arith
 
 pub period-same : (p q : Period) → p .pictures ≡ q .pictures → p ≡ q
 period-same p q e = λ i. record { pictures = e i; bounded = isProp→PathP (λ j. e j ≤ 16384) (λ j. le-prop) (p .bounded) (q .bounded) i }
+
+pub orientation-same : (o p : DisplayOrientation) → o .«horizontal_flip» ≡ p .«horizontal_flip» → o .«vertical_flip» ≡ p .«vertical_flip» → o .rotation ≡ p .rotation → o .period ≡ p .period → o ≡ p
+orientation-same o p h v r d = λ i. record {
+  «horizontal_flip» = h i;
+  «vertical_flip» = v i;
+  rotation = r i;
+  period = d i;
+  fits = isProp→PathP (λ j. r j < 2 ^ 16) (λ j. le-prop) (o .fits) (p .fits) i
+}
+
+pub level-same : (l m : ContentLightLevel) → l .greatest ≡ m .greatest → l .«greatest_average» ≡ m .«greatest_average» → l ≡ m
+level-same l m g a = λ i. record {
+  greatest = g i;
+  «greatest_average» = a i;
+  fits = isProp→PathP (λ j. (g j < 2 ^ 16) × (a j < 2 ^ 16)) (λ j. ×-prop le-prop le-prop) (l .fits) (m .fits) i
+}

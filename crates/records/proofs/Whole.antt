@@ -44,13 +44,12 @@ module _ (l : Layout) (vs : List ℕ) (holds : Holds l vs) (short : size l vs �
       ∙ ap asPayload (lawful l .reads-as-written vs holds)
 
   -- where it does not fit
-  pub written-short : (buffer : List ℕ) → length buffer < size l vs → (Err (record {}), buffer) ≡ written (payload l vs) buffer
-  written-short buffer h = rw (lt-leb (length (payload l vs)) (length buffer) (omega (arith, length-payload l vs)))
+  pub written-short : (buffer : List ℕ) → length buffer < length (payload l vs) → (Err (record {}), buffer) ≡ written (payload l vs) buffer
+  written-short buffer h = rw (lt-leb (length (payload l vs)) (length buffer) h)
 
   -- where it fits: after is what the writer left in the buffer
-  pub written-whole : (before after : List ℕ) (n : ℕ) (s t : Sheet) → n ≡ size l vs → size l vs ≤ length before → ((i : ℕ) → getD before i 0 < 256) → ((i : ℕ) → getD after i 0 < 256)
+  pub written-whole : (before after : List ℕ) (n : ℕ) (s t : Sheet) → n ≡ length (payload l vs) → length (payload l vs) ≤ length before → ((i : ℕ) → getD before i 0 < 256) → ((i : ℕ) → getD after i 0 < 256)
       → s ≡ record { place = 0; bits = bitsOf before } → t ≡ lays l vs s → t .bits ≡ bitsOf after → (Ok n, after) ≡ written (payload l vs) before
   written-whole before after n s t len room b a e f g =
-      let long : n ≡ length (payload l vs) = len ∙ sym (length-payload l vs) in
-      let front : after ≡ fronted (payload l vs) before = written-front l vs before after holds room short (bytes-from before b) (bytes-from after a) (sym g ∙ ap (λ x. x .bits) (f ∙ ap (lays l vs) e)) in
-      (λ i. (Ok (long i), front i)) ∙ sym (ap (λ c. cond c (Ok (length (payload l vs)), fronted (payload l vs) before) (Err (record {}), before)) (le-leb (length (payload l vs)) (length before) (omega arith)))
+      let front : after ≡ fronted (payload l vs) before = written-front l vs before after holds (omega (arith, length-payload l vs)) short (bytes-from before b) (bytes-from after a) (sym g ∙ ap (λ x. x .bits) (f ∙ ap (lays l vs) e)) in
+      (λ i. (Ok (len i), front i)) ∙ sym (ap (λ c. cond c (Ok (length (payload l vs)), fronted (payload l vs) before) (Err (record {}), before)) (le-leb (length (payload l vs)) (length before) room))

@@ -1,9 +1,7 @@
 // Type 144, content light level: how bright the pictures get, in candelas per square metre.
-ghost use Rattle.records.specs.ContentLightLevel.{layout as levelLayout, numbers as levelNumbers};
-use crate::record::Record;
-use fields::fault::FieldFault;
-use fields::reader::Reader;
-use fields::writer::Writer;
+ghost use Prim.Native.Nat.{_^_, _<_};
+
+pub mod record;
 
 #[derive(Clone, Copy, PartialEq, Eq, Debug)]
 pub struct ContentLightLevel {
@@ -11,28 +9,5 @@ pub struct ContentLightLevel {
     pub greatest: u16,
     // of a picture's average, at most
     pub greatest_average: u16,
-}
-
-pub impl Record for ContentLightLevel as ContentLightLevelRecord {
-    ghost layout = { levelLayout };
-
-    ghost numbers = { levelNumbers };
-
-    ghost greatest = { 4 };
-
-    fn decode(mut reader: Reader) -> Result<ContentLightLevel, FieldFault> {
-        let greatest = reader.bits(16)? as u16;
-        let greatest_average = reader.bits(16)? as u16;
-        reader.close()?;
-        Ok(ContentLightLevel {
-            greatest,
-            greatest_average,
-        })
-    }
-
-    fn encode(&self, writer: &mut Writer) {
-        writer.bits(16, self.greatest as u32);
-        writer.bits(16, self.greatest_average as u32);
-        writer.close();
-    }
+    ghost fits: { (greatest < 2 ^ 16) × («greatest_average» < 2 ^ 16) },
 }

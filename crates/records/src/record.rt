@@ -3,6 +3,7 @@ ghost use mathlib.Core.Path.{_≡_};
 ghost use mathlib.Core.List.{List};
 ghost use mathlib.Core.Logic.{_↔_};
 ghost use Prim.Native.Nat.{ℕ, _≤_};
+ghost use lib.ListN.{length};
 ghost use denote.Ref.{name};
 ghost use Rattle.std.specs.Vec.{made};
 ghost use Rattle.std.specs.declared.result.Result.the-variants.{Ok};
@@ -58,7 +59,7 @@ pub trait Record: Sized {
 
     // The length of its payload, told by a writer with no room.
     fn payload_len(&self) -> usize
-        ensures value { λ r. ⌜ r ≡ size layout (numbers (now (self .entry))) ⌝ }
+        ensures value { λ r. ⌜ r ≡ length (payloadOf layout (numbers (now (self .entry)))) ⌝ }
         ensures holds { λ _. ⌜ Holds layout (numbers (now (self .entry))) ⌝ }
     {
         let mut none: [u8; 0] = [];

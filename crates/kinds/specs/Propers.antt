@@ -1,0 +1,27 @@
+-- Every content is one that a payload can say.
+use mathlib.Core.Path.{_≡_, refl, ap, _∙_}
+use mathlib.Core.Bool.{Bool, true, false}
+use native.Mathlib.Omega.{arith}
+use Prim.Native.Nat.{ℕ, _<_, _≤_}
+use Rattle.fields.specs.Bits.{bit}
+use Rattle.fields.proofs.Steps.{at-most}
+use Rattle.records.specs.declared.content_light_level.ContentLightLevel.{ContentLightLevel}
+use Rattle.records.specs.declared.cubemap.Cubemap.{Cubemap}
+use Rattle.records.specs.declared.display_orientation.DisplayOrientation.{DisplayOrientation}
+use Rattle.records.specs.ContentLightLevel as level
+use Rattle.records.specs.Cubemap as cubemap
+use Rattle.records.specs.DisplayOrientation as orientation
+use Rattle.kinds.specs.Contents.{orientationRules, levelRules, cubemapRules}
+
+bit-small : (b : Bool) → bit b < 2
+bit-small true = omega arith
+bit-small false = omega arith
+
+pub orientationProper : (o : DisplayOrientation) → orientationRules .Proper (orientation.contentNumbers o)
+orientationProper o = (bit-small (o .«horizontal_flip»), (bit-small (o .«vertical_flip»), (o .fits, ((omega (arith, o .period .bounded), at-most 16384 (o .period .pictures) (o .period .bounded)), tt))))
+
+pub levelProper : (l : ContentLightLevel) → levelRules .Proper (level.numbers l)
+levelProper l = (l .fits .0, (l .fits .1, tt))
+
+pub cubemapProper : (c : Cubemap) → cubemapRules .Proper (cubemap.contentNumbers c)
+cubemapProper c = (bit-small (c .persistence), tt)
