@@ -58,8 +58,8 @@ closing-is p =
     ⊎-elim
     (λ e. let w : (8 - p % 8) % 8 ≡ 0 = omega arith in rw (eq-eqb (p % 8) 0 e, w) (refl, refl))
     (λ n.
-        let w : (8 - p % 8) % 8 ≡ suc (7 - p % 8) = omega arith in
-        rw (ne-eqb (p % 8) 0 n, w) (ap suc (length-replicate (7 - p % 8) false), number-top (7 - p % 8) ∙ sym (half (7 - p % 8))))
+    let w : (8 - p % 8) % 8 ≡ suc (7 - p % 8) = omega arith in
+    rw (ne-eqb (p % 8) 0 n, w) (ap suc (length-replicate (7 - p % 8) false), number-top (7 - p % 8) ∙ sym (half (7 - p % 8))))
     (cases-eq (p % 8) 0)
 
 module _ (bs : List ℕ) (p : ℕ) (within : p ≤ 8 * length bs) where

@@ -94,9 +94,9 @@ coded-digits v h p more =
     let fits : n + 1 + n ≤ length (k ++ more) = omega (arith, length-append k more) in
     let front : length (replicate n false ++ (true ∷ [])) ≡ n + 1 = simp (length-append, length-replicate) refl in
     let mid : take n (drop (n + 1) (k ++ more)) ≡ word n (v + 1) =
-        ap (λ l. take n (drop (n + 1) l)) split2 ∙ ap (take n) (drop-at (replicate n false ++ (true ∷ [])) (word n (v + 1) ++ more) (n + 1) front) ∙ take-at (word n (v + 1)) more n (length-word n (v + 1)) in
+    ap (λ l. take n (drop (n + 1) l)) split2 ∙ ap (take n) (drop-at (replicate n false ++ (true ∷ [])) (word n (v + 1) ++ more) (n + 1) front) ∙ take-at (word n (v + 1)) more n (length-word n (v + 1)) in
     let val : 2 ^ n - 1 + number (take n (drop (n + 1) (k ++ more))) ≡ v =
-        ap (λ l. 2 ^ n - 1 + number l) mid ∙ omega (arith, number-word n (v + 1), low-part n (v + 1) (t .0) (t .1), pow-pos n, t .0) in
+    ap (λ l. 2 ^ n - 1 + number l) mid ∙ omega (arith, number-word n (v + 1), low-part n (v + 1) (t .0) (t .1), pow-pos n, t .0) in
     let end : drop (n + 1 + n) (k ++ more) ≡ more = drop-at k more (n + 1 + n) long in
     ue-of (k ++ more) n p z (t .2) fits ∙ (λ i. Ok (val i, record { place = p + sym long i; rest = end i }))
 
@@ -136,15 +136,15 @@ unfolding nextU nextUe codedUe
 step-u w v s t e =
     ⊎-elim
     (λ b.
-        let f : Ok (number (take w (s .rest)), past w s) ≡ Ok (v, t) = rw b at e in
-        let l = take w (s .rest) in
-        let long : length l ≡ w = length-take-le w (s .rest) (leb-true w (length (s .rest)) b) in
-        moved (u w) (number l) v s (past w s) t f
-        (record {
-          bits = sym (ap (λ x. x ++ drop w (s .rest)) (word-of l w long) ∙ take-append-drop w (s .rest));
-          place = ap (λ x. s .place + x) (sym (length-word w (number l)));
-          inside = subst (λ x. number l < 2 ^ x) long (number-lt l)
-        }))
+    let f : Ok (number (take w (s .rest)), past w s) ≡ Ok (v, t) = rw b at e in
+    let l = take w (s .rest) in
+    let long : length l ≡ w = length-take-le w (s .rest) (leb-true w (length (s .rest)) b) in
+    moved (u w) (number l) v s (past w s) t f
+    (record {
+      bits = sym (ap (λ x. x ++ drop w (s .rest)) (word-of l w long) ∙ take-append-drop w (s .rest));
+      place = ap (λ x. s .place + x) (sym (length-word w (number l)));
+      inside = subst (λ x. number l < 2 ^ x) long (number-lt l);
+    }))
     (λ b. absurd (err-ok (rw b at e)))
     (cases-bool (leb w (length (s .rest))))
 
@@ -162,35 +162,35 @@ step-ue v s t e =
     ⊎-elim
     (λ a. absurd (err-ok (rw a at e)))
     (λ (a : leb 32 (zeros (s .rest)) ≡ false).
-        ⊎-elim
-        (λ (b : leb (zeros (s .rest) + 1 + zeros (s .rest)) (length (s .rest)) ≡ true).
-            let small = leb-false 32 n a in
-            let fits = leb-true (n + 1 + n) (length l) b in
-            let f = sym (ue-of l n (s .place) refl small fits) ∙ e in
-            let x = take n (drop (n + 1) l) in
-            let m = 2 ^ n - 1 + number x in
-            let long : length x ≡ n = length-take-le n (drop (n + 1) l) (simp length-drop (omega arith)) in
-            let below : number x < 2 ^ n = subst (λ z. number x < 2 ^ z) long (number-lt x) in
-            let pos = pow-pos n in
-            let sum : m + 1 ≡ 2 ^ n + number x = omega arith in
-            let far : suc n ≤ 32 = omega arith in
-            let more : 2 ^ suc n ≤ 2 ^ 32 = pow-mono far in
-            let lead : 31 - leadingZeros 32 (m + 1) ≡ n =
-                let r = leading-unique 32 (m + 1) (31 - n) (suc n) (omega arith) (omega (arith, pow-suc 2 n)) (omega (arith, pow-suc 2 n)) in omega arith in
-            let one : number (true ∷ x) ≡ m + 1 = number-one x ∙ ap (λ z. 2 ^ z + number x) long ∙ sym sum in
-            let wd : word (n + 1) (m + 1) ≡ true ∷ x = ap (word (n + 1)) (sym one) ∙ word-of (true ∷ x) (n + 1) (ap suc long ∙ sym (add-one n)) in
-            let small-m : m + 1 < 2 ^ 32 = omega (arith, pow-suc 2 n) in
-            let code : coded ue m ≡ replicate n false ++ (true ∷ x) = ue-code m small-m ∙ ap (λ z. replicate z false ++ word (z + 1) (m + 1)) lead ∙ ap (λ z. replicate n false ++ z) wd in
-            let tail : drop n l ≡ true ∷ (x ++ drop (n + 1 + n) l) =
-                drop-zeros l (omega arith) ∙ ap (λ z. true ∷ z) (sym (take-append-drop n (drop (n + 1) l)) ∙ ap (λ z. x ++ z) (drop-drop n (n + 1) l)) in
-            moved ue m v s (past (n + 1 + n) s) t f
-            (record {
-              bits = sym (take-append-drop n l) ∙ (λ i. take-zeros l i ++ tail i) ∙ sym (append-assoc (replicate n false) (true ∷ x) (drop (n + 1 + n) l)) ∙ ap (λ z. z ++ drop (n + 1 + n) l) (sym code);
-              place = ap (λ z. s .place + z) (sym (ap length code ∙ simp (length-append, length-replicate) (omega arith)));
-              inside = omega (arith, pow-suc 2 n)
-            }))
-        (λ (b : leb (zeros (s .rest) + 1 + zeros (s .rest)) (length (s .rest)) ≡ false). absurd (err-ok (rw (a, b) at e)))
-        (cases-bool (leb (n + 1 + n) (length l))))
+    ⊎-elim
+    (λ (b : leb (zeros (s .rest) + 1 + zeros (s .rest)) (length (s .rest)) ≡ true).
+    let small = leb-false 32 n a in
+    let fits = leb-true (n + 1 + n) (length l) b in
+    let f = sym (ue-of l n (s .place) refl small fits) ∙ e in
+    let x = take n (drop (n + 1) l) in
+    let m = 2 ^ n - 1 + number x in
+    let long : length x ≡ n = length-take-le n (drop (n + 1) l) (simp length-drop (omega arith)) in
+    let below : number x < 2 ^ n = subst (λ z. number x < 2 ^ z) long (number-lt x) in
+    let pos = pow-pos n in
+    let sum : m + 1 ≡ 2 ^ n + number x = omega arith in
+    let far : suc n ≤ 32 = omega arith in
+    let more : 2 ^ suc n ≤ 2 ^ 32 = pow-mono far in
+    let lead : 31 - leadingZeros 32 (m + 1) ≡ n =
+    let r = leading-unique 32 (m + 1) (31 - n) (suc n) (omega arith) (omega (arith, pow-suc 2 n)) (omega (arith, pow-suc 2 n)) in omega arith in
+    let one : number (true ∷ x) ≡ m + 1 = number-one x ∙ ap (λ z. 2 ^ z + number x) long ∙ sym sum in
+    let wd : word (n + 1) (m + 1) ≡ true ∷ x = ap (word (n + 1)) (sym one) ∙ word-of (true ∷ x) (n + 1) (ap suc long ∙ sym (add-one n)) in
+    let small-m : m + 1 < 2 ^ 32 = omega (arith, pow-suc 2 n) in
+    let code : coded ue m ≡ replicate n false ++ (true ∷ x) = ue-code m small-m ∙ ap (λ z. replicate z false ++ word (z + 1) (m + 1)) lead ∙ ap (λ z. replicate n false ++ z) wd in
+    let tail : drop n l ≡ true ∷ (x ++ drop (n + 1 + n) l) =
+    drop-zeros l (omega arith) ∙ ap (λ z. true ∷ z) (sym (take-append-drop n (drop (n + 1) l)) ∙ ap (λ z. x ++ z) (drop-drop n (n + 1) l)) in
+    moved ue m v s (past (n + 1 + n) s) t f
+    (record {
+      bits = sym (take-append-drop n l) ∙ (λ i. take-zeros l i ++ tail i) ∙ sym (append-assoc (replicate n false) (true ∷ x) (drop (n + 1 + n) l)) ∙ ap (λ z. z ++ drop (n + 1 + n) l) (sym code);
+      place = ap (λ z. s .place + z) (sym (ap length code ∙ simp (length-append, length-replicate) (omega arith)));
+      inside = omega (arith, pow-suc 2 n);
+    }))
+    (λ (b : leb (zeros (s .rest) + 1 + zeros (s .rest)) (length (s .rest)) ≡ false). absurd (err-ok (rw (a, b) at e)))
+    (cases-bool (leb (n + 1 + n) (length l))))
     (cases-bool (leb 32 n))
 
 judged-ok : (b : Verdict) (p v w : ℕ) (s t : Left) → judged {A = ℕ × Left} b p (v, s) ≡ Ok (w, t) → (b ≡ fine) × (_≡_ {A = Result (ℕ × Left) FieldFault} (Ok (v, s)) (Ok (w, t)))
@@ -205,10 +205,10 @@ step ue v s t e = step-ue v s t e
 step (within c ok) v s t e =
     ⊎-elim
     (λ a.
-        let f : judged (ok (a .0 .0)) (s .place) (a .0) ≡ Ok (v, t) = rw (a .1) at e in
-        let j = judged-ok (ok (a .0 .0)) (s .place) (a .0 .0) v (a .0 .1) t f in
-        let q = ok-parts (j .1) in
-        let h = step c v s t (a .1 ∙ j .1) in
-        record { bits = h .bits; place = h .place; inside = (h .inside, subst (λ x. ok x ≡ fine) (q .0) (j .0)) })
+    let f : judged (ok (a .0 .0)) (s .place) (a .0) ≡ Ok (v, t) = rw (a .1) at e in
+    let j = judged-ok (ok (a .0 .0)) (s .place) (a .0 .0) v (a .0 .1) t f in
+    let q = ok-parts (j .1) in
+    let h = step c v s t (a .1 ∙ j .1) in
+    record { bits = h .bits; place = h .place; inside = (h .inside, subst (λ x. ok x ≡ fine) (q .0) (j .0)) })
     (λ a. absurd (err-ok (rw (a .1) at e)))
     (seen (next c s))

@@ -103,6 +103,6 @@ module _ (bs : List ℕ) (p : ℕ) (within : p ≤ 8 * length bs) where
       let long = length-from bs p in
       let q = ue-number l (omega arith) in
       let g : v ≡ number (take (zeros l + 1) (drop (zeros l) l)) =
-          f ∙ ap (λ x. number (take (x + 1) (drop (p + x) (bitsOf bs)))) e ∙ sym (ap (λ x. number (take (zeros l + 1) x)) (drop-drop (zeros l) p (bitsOf bs))) in
+      f ∙ ap (λ x. number (take (x + 1) (drop (p + x) (bitsOf bs)))) e ∙ sym (ap (λ x. number (take (zeros l + 1) x)) (drop-drop (zeros l) p (bitsOf bs))) in
       let w : zeros l + 1 + zeros l ≡ 2 * z + 1 = omega arith in
       (omega (arith, q .0), rw (lt-leb 32 (zeros l) (omega arith), le-leb (zeros l + 1 + zeros l) (length l) (omega arith), q .1, sym g, drop-drop (zeros l + 1 + zeros l) p (bitsOf bs), w))

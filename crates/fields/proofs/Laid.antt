@@ -30,8 +30,8 @@ module _ {A : Type 0} where
       let n : length front ≡ p + length xs = simp length-append (omega (arith, length-take p all)) in
       let e : laid p xs all ≡ front ++ rest = sym (append-assoc (take p all) xs rest) in
       let d : drop (p + length xs + length ys) (front ++ rest) ≡ drop (p + length (xs ++ ys)) all =
-          ap (λ k. drop (k + length ys) (front ++ rest)) (sym n) ∙ drop-append-add front rest (length ys) ∙ drop-drop (length ys) (p + length xs) all
-          ∙ ap (λ k. drop k all) (omega (arith, length-append xs ys)) in
+      ap (λ k. drop (k + length ys) (front ++ rest)) (sym n) ∙ drop-append-add front rest (length ys) ∙ drop-drop (length ys) (p + length xs) all
+      ∙ ap (λ k. drop k all) (omega (arith, length-append xs ys)) in
       ap (laid (p + length xs) ys) e ∙ (λ i. take-at front rest (p + length xs) n i ++ (ys ++ d i)) ∙ append-assoc (take p all) xs (ys ++ drop (p + length (xs ++ ys)) all)
       ∙ ap (λ l. take p all ++ l) (sym (append-assoc xs ys (drop (p + length (xs ++ ys)) all)))
 
@@ -45,7 +45,7 @@ module _ {A : Type 0} where
   laid-before : (p : ℕ) (xs all bs : List A) → p + length xs ≤ length all → laid p xs (all ++ bs) ≡ laid p xs all ++ bs
   laid-before p xs all bs h =
       let e : laid p xs all ++ bs ≡ take p all ++ (xs ++ (drop (p + length xs) all ++ bs)) =
-          append-assoc (take p all) (xs ++ drop (p + length xs) all) bs ∙ ap (λ l. take p all ++ l) (append-assoc xs (drop (p + length xs) all) bs) in
+      append-assoc (take p all) (xs ++ drop (p + length xs) all) bs ∙ ap (λ l. take p all ++ l) (append-assoc xs (drop (p + length xs) all) bs) in
       let t = take-append-le p all bs (omega arith) in
       let d = drop-append-le (p + length xs) all bs h in
       (λ i. t i ++ (xs ++ d i)) ∙ sym e
@@ -64,11 +64,11 @@ bits-set (x ∷ bs) (suc i) k b xs h f e =
 -- a byte of which the middle is replaced
 pub patched-is : (b low n v : ℕ) → low + n ≤ 8 → b < 256
     → word 8
-      (bitAnd
-        (bitOr
-          ((bitOr ((b / 2 ^ (low + n) * 2 ^ n) % 2 ^ 64) (bitAnd v ((1 * 2 ^ n) % 2 ^ 64 - 1)) * 2 ^ low) % 2 ^ 64)
-          (bitAnd b ((1 * 2 ^ low) % 2 ^ 64 - 1)))
-        255)
+    (bitAnd
+    (bitOr
+    ((bitOr ((b / 2 ^ (low + n) * 2 ^ n) % 2 ^ 64) (bitAnd v ((1 * 2 ^ n) % 2 ^ 64 - 1)) * 2 ^ low) % 2 ^ 64)
+    (bitAnd b ((1 * 2 ^ low) % 2 ^ 64 - 1)))
+    255)
     ≡ laid (8 - (low + n)) (word n v) (word 8 b)
 patched-is b low n v h small =
     let k = 8 - (low + n) in
@@ -83,26 +83,26 @@ patched-is b low n v h small =
     let rest = mod-lt v (pow-pos n) in
     let last = mod-lt b (pow-pos low) in
     let mask : (m w : ℕ) → w ≤ 8 → bitAnd m ((1 * 2 ^ w) % 2 ^ 64 - 1) ≡ m % 2 ^ w =
-        λ m w f. ap (λ x. bitAnd m (x - 1)) (one-shl w 64 (omega arith)) ∙ and-mask m w in
+    λ m w f. ap (λ x. bitAnd m (x - 1)) (one-shl w 64 (omega arith)) ∙ and-mask m w in
     let up : bitOr ((top * 2 ^ n) % 2 ^ 64) (bitAnd v ((1 * 2 ^ n) % 2 ^ 64 - 1)) ≡ upper =
-        (λ i. bitOr (shl-whole top 8 n 64 (omega arith) (omega arith) i) (mask v n few i)) ∙ or-shifted top n (v % 2 ^ n) rest in
+    (λ i. bitOr (shl-whole top 8 n 64 (omega arith) (omega arith) i) (mask v n few i)) ∙ or-shifted top n (v % 2 ^ n) rest in
     let wide : upper < 2 ^ 17 =
-        let a = shl-below top 8 n (omega arith) in
-        let f : 8 + n ≤ 16 = omega arith in
-        let c : 2 ^ (8 + n) ≤ 2 ^ 16 = pow-mono f in
-        let d : 2 ^ n ≤ 2 ^ 8 = pow-mono few in
-        omega arith in
+    let a = shl-below top 8 n (omega arith) in
+    let f : 8 + n ≤ 16 = omega arith in
+    let c : 2 ^ (8 + n) ≤ 2 ^ 16 = pow-mono f in
+    let d : 2 ^ n ≤ 2 ^ 8 = pow-mono few in
+    omega arith in
     let joined = upper * 2 ^ low + b % 2 ^ low in
     let all : bitOr ((bitOr ((top * 2 ^ n) % 2 ^ 64) (bitAnd v ((1 * 2 ^ n) % 2 ^ 64 - 1)) * 2 ^ low) % 2 ^ 64) (bitAnd b ((1 * 2 ^ low) % 2 ^ 64 - 1)) ≡ joined =
-        (λ i. bitOr ((up i * 2 ^ low) % 2 ^ 64) (mask b low (omega arith) i)) ∙ ap (λ x. bitOr x (b % 2 ^ low)) (shl-whole upper 17 low 64 wide (omega arith)) ∙ or-shifted upper low (b % 2 ^ low) last in
+    (λ i. bitOr ((up i * 2 ^ low) % 2 ^ 64) (mask b low (omega arith) i)) ∙ ap (λ x. bitOr x (b % 2 ^ low)) (shl-whole upper 17 low 64 wide (omega arith)) ∙ or-shifted upper low (b % 2 ^ low) last in
     let split : word 8 joined ≡ (word k top ++ word n v) ++ word low b =
-        ap (λ w. word w joined) (sym parts) ∙ word-join (k + n) low upper (b % 2 ^ low) last
-        ∙ (λ i. (word-join k n top (v % 2 ^ n) rest ∙ ap (λ l. word k top ++ l) (word-mod n v)) i ++ word-mod low b i) in
+    ap (λ w. word w joined) (sym parts) ∙ word-join (k + n) low upper (b % 2 ^ low) last
+    ∙ (λ i. (word-join k n top (v % 2 ^ n) rest ∙ ap (λ l. word k top ++ l) (word-mod n v)) i ++ word-mod low b i) in
     let front : take k (word 8 b) ≡ word k top =
-        ap (take k) (ap (λ w. word w b) (sym whole) ∙ word-split k (low + n) b) ∙ take-at (word k top) (word (low + n) b) k (length-word k top) in
+    ap (take k) (ap (λ w. word w b) (sym whole) ∙ word-split k (low + n) b) ∙ take-at (word k top) (word (low + n) b) k (length-word k top) in
     let back : drop (k + length (word n v)) (word 8 b) ≡ word low b =
-        ap (drop (k + length (word n v))) (ap (λ w. word w b) (sym parts) ∙ word-split (k + n) low b)
-        ∙ drop-at (word (k + n) (b / 2 ^ low)) (word low b) (k + length (word n v)) (length-word (k + n) (b / 2 ^ low) ∙ ap (λ x. k + x) (sym (length-word n v))) in
+    ap (drop (k + length (word n v))) (ap (λ w. word w b) (sym parts) ∙ word-split (k + n) low b)
+    ∙ drop-at (word (k + n) (b / 2 ^ low)) (word low b) (k + length (word n v)) (length-word (k + n) (b / 2 ^ low) ∙ ap (λ x. k + x) (sym (length-word n v))) in
     ap (λ x. word 8 (bitAnd x 255)) all ∙ ap (word 8) (and-mask joined 8) ∙ word-mod 8 joined ∙ split ∙ append-assoc (word k top) (word n v) (word low b)
     ∙ sym (λ i. front i ++ (word n v ++ back i))
 
@@ -118,7 +118,7 @@ lay-more bs ds place n left b v few inside room some e f =
     let here : 8 * (place / 8) + place % 8 ≡ place = omega arith in
     let fit : place % 8 + length xs ≤ 8 = omega arith in
     let one : bitsOf ds ≡ laid place xs (bitsOf bs) =
-        ap bitsOf f ∙ bits-set bs (place / 8) (place % 8) b xs (omega arith) fit e ∙ ap (λ p. laid p xs (bitsOf bs)) here in
+    ap bitsOf f ∙ bits-set bs (place / 8) (place % 8) b xs (omega arith) fit e ∙ ap (λ p. laid p xs (bitsOf bs)) here in
     let all : xs ++ word (left - n) v ≡ word left v = sym (word-split n (left - n) v) ∙ ap (λ w. word w v) (omega arith) in
     (λ i. laid (place + sym long i) (word (left - n) v) (one i)) ∙ laid-laid place xs (word (left - n) v) (bitsOf bs) (omega (arith, length-bits bs)) ∙ ap (λ l. laid place l (bitsOf bs)) all
 

@@ -89,15 +89,15 @@ zeros-next w n s t e =
       none = λ more h.
           let f : next (u w) s ≡ Ok (0, record { place = s .place + w; rest = more }) = ap (λ x. next (u w) (record { place = s .place; rest = x })) h ∙ next-zeros w (s .place) more in
           let q = ok-parts (sym e ∙ f) in
-          (q .0, ap (λ x. x .rest) (q .1))
+          (q .0, ap (λ x. x .rest) (q .1));
     }
 
 back-close : (s : Left) (vs : List ℕ) → reads close s ≡ Ok vs → Back close s vs
 back-close s vs e =
     ⊎-elim
     (λ a.
-        let f : Ok [] ≡ Ok vs = rw (a .1) at e in
-        subst (λ x. Back close s x) (ok-is f) (record { holds = tt; plain = λ _. closes-only s (a .1); only = λ _. tt }))
+    let f : Ok [] ≡ Ok vs = rw (a .1) at e in
+    subst (λ x. Back close s x) (ok-is f) (record { holds = tt; plain = λ _. closes-only s (a .1); only = λ _. tt }))
     (λ a. absurd (err-ok (rw (a .1) at e)))
     (seen (closes s))
 
@@ -105,25 +105,25 @@ back-extension : (s : Left) (vs : List ℕ) → reads extension s ≡ Ok vs → 
 back-extension s vs e =
     ⊎-elim
     (λ a.
-        let n = a .0 .0 in
-        let t = a .0 .1 in
-        let z = zeros-next 1 n s t (a .1) in
-        let f : andThen (cond (eqb n 1) (Ok tt) (closes t)) (λ _. Ok []) ≡ Ok vs = rw (a .1) at e in
-        let only : s .rest ≡ false ∷ closing (s .place + 1) → Then (next (u 1) s) (λ m _. m ≡ 0) =
-            λ h. rw (a .1) (z .none (closing (s .place + 1)) h .0) in
-        ⊎-elim
-        (λ b.
-            let g : Ok [] ≡ Ok vs = rw b at f in
-            let one = eqb-true n 1 b in
-            subst (λ x. Back extension s x) (ok-is g)
-            (record { holds = tt; plain = λ p. let q : n ≡ 0 = rw (a .1) at p in absurd (omega arith); only = only }))
-        (λ b.
-            let g : andThen (closes t) (λ _. Ok []) ≡ Ok vs = rw b at f in
-            let back = back-close t vs g in
-            let end : t .rest ≡ closing (s .place + 1) = back .plain tt ∙ ap closing (z .place) in
-            subst (λ x. Back extension s x) (nil-of vs (back .holds))
-            (record { holds = tt; plain = λ p. let q : n ≡ 0 = rw (a .1) at p in z .bits q ∙ ap (λ x. false ∷ x) end; only = only }))
-        (cases-bool (eqb n 1)))
+    let n = a .0 .0 in
+    let t = a .0 .1 in
+    let z = zeros-next 1 n s t (a .1) in
+    let f : andThen (cond (eqb n 1) (Ok tt) (closes t)) (λ _. Ok []) ≡ Ok vs = rw (a .1) at e in
+    let only : s .rest ≡ false ∷ closing (s .place + 1) → Then (next (u 1) s) (λ m _. m ≡ 0) =
+    λ h. rw (a .1) (z .none (closing (s .place + 1)) h .0) in
+    ⊎-elim
+    (λ b.
+    let g : Ok [] ≡ Ok vs = rw b at f in
+    let one = eqb-true n 1 b in
+    subst (λ x. Back extension s x) (ok-is g)
+    (record { holds = tt; plain = λ p. let q : n ≡ 0 = rw (a .1) at p in absurd (omega arith); only = only }))
+    (λ b.
+    let g : andThen (closes t) (λ _. Ok []) ≡ Ok vs = rw b at f in
+    let back = back-close t vs g in
+    let end : t .rest ≡ closing (s .place + 1) = back .plain tt ∙ ap closing (z .place) in
+    subst (λ x. Back extension s x) (nil-of vs (back .holds))
+    (record { holds = tt; plain = λ p. let q : n ≡ 0 = rw (a .1) at p in z .bits q ∙ ap (λ x. false ∷ x) end; only = only }))
+    (cases-bool (eqb n 1)))
     (λ a. absurd (err-ok (rw (a .1) at e)))
     (seen (next (u 1) s))
   where
@@ -137,46 +137,46 @@ back extension s vs e = back-extension s vs e
 back (reserved w l) s vs e =
     ⊎-elim
     (λ a.
-        let n = a .0 .0 in
-        let t = a .0 .1 in
-        let z = zeros-next w n s t (a .1) in
-        let f : reads l t ≡ Ok vs = rw (a .1) at e in
-        let h = back l t vs f in
-        record {
-          holds = h .holds;
-          plain = λ p.
-              let q : (n ≡ 0) × Plain l t = rw (a .1) at p in
-              z .bits (q .0) ∙ ap (λ x. replicate w false ++ x) (h .plain (q .1) ∙ ap (λ x. writes l x vs) (z .place));
-          only = λ r.
-              let q = z .none (writes l (s .place + w) vs) r in
-              rw (a .1) (q .0, h .only (q .1 ∙ ap (λ x. writes l x vs) (sym (z .place))))
-        })
+    let n = a .0 .0 in
+    let t = a .0 .1 in
+    let z = zeros-next w n s t (a .1) in
+    let f : reads l t ≡ Ok vs = rw (a .1) at e in
+    let h = back l t vs f in
+    record {
+      holds = h .holds;
+      plain = λ p.
+          let q : (n ≡ 0) × Plain l t = rw (a .1) at p in
+          z .bits (q .0) ∙ ap (λ x. replicate w false ++ x) (h .plain (q .1) ∙ ap (λ x. writes l x vs) (z .place));
+      only = λ r.
+          let q = z .none (writes l (s .place + w) vs) r in
+          rw (a .1) (q .0, h .only (q .1 ∙ ap (λ x. writes l x vs) (sym (z .place))));
+    })
     (λ a. absurd (err-ok (rw (a .1) at e)))
     (seen (next (u w) s))
 back (field c l) s vs e =
     ⊎-elim
     (λ a.
-        let n = a .0 .0 in
-        let t = a .0 .1 in
-        let st = step c n s t (a .1) in
-        let f : andThen (reads (l n) t) (λ ws. Ok (n ∷ ws)) ≡ Ok vs = rw (a .1) at e in
-        ⊎-elim
-        (λ b.
-            let ws = b .0 in
-            let g : Ok (n ∷ ws) ≡ Ok vs = rw (b .1) at f in
-            let h = back (l n) t ws (b .1) in
-            subst (λ x. Back (field c l) s x) (ok-is g)
-            (record {
-              holds = (st .inside, h .holds);
-              plain = λ p.
-                  let q : Plain (l n) t = rw (a .1) at p in
-                  st .bits ∙ ap (λ x. coded c n ++ x) (h .plain q ∙ ap (λ x. writes (l n) x ws) (st .place));
-              only = λ r.
-                  let q : t .rest ≡ writes (l n) (s .place + length (coded c n)) ws = append-cancel-left (coded c n) (t .rest) (writes (l n) (s .place + length (coded c n)) ws) (sym (st .bits) ∙ r) in
-                  rw (a .1) (h .only (q ∙ ap (λ x. writes (l n) x ws) (sym (st .place))))
-            }))
-        (λ b. absurd (err-ok (rw (b .1) at f)))
-        (seen (reads (l n) t)))
+    let n = a .0 .0 in
+    let t = a .0 .1 in
+    let st = step c n s t (a .1) in
+    let f : andThen (reads (l n) t) (λ ws. Ok (n ∷ ws)) ≡ Ok vs = rw (a .1) at e in
+    ⊎-elim
+    (λ b.
+    let ws = b .0 in
+    let g : Ok (n ∷ ws) ≡ Ok vs = rw (b .1) at f in
+    let h = back (l n) t ws (b .1) in
+    subst (λ x. Back (field c l) s x) (ok-is g)
+    (record {
+      holds = (st .inside, h .holds);
+      plain = λ p.
+          let q : Plain (l n) t = rw (a .1) at p in
+          st .bits ∙ ap (λ x. coded c n ++ x) (h .plain q ∙ ap (λ x. writes (l n) x ws) (st .place));
+      only = λ r.
+          let q : t .rest ≡ writes (l n) (s .place + length (coded c n)) ws = append-cancel-left (coded c n) (t .rest) (writes (l n) (s .place + length (coded c n)) ws) (sym (st .bits) ∙ r) in
+          rw (a .1) (h .only (q ∙ ap (λ x. writes (l n) x ws) (sym (st .place))));
+    }))
+    (λ b. absurd (err-ok (rw (b .1) at f)))
+    (seen (reads (l n) t)))
     (λ a. absurd (err-ok (rw (a .1) at e)))
     (seen (next c s))
 
@@ -254,5 +254,5 @@ lawful l = record {
   same-when-plain = λ bytes vs h e.
       let b = back l (from bytes 0) vs e in
       let p = bits-payload l vs (b .holds) in
-      (λ g. b .only (ap bitsOf (sym g) ∙ p), λ g. bits-same (payload l vs) bytes (bytes-payload l vs (b .holds)) h (p ∙ sym (b .plain g)))
+      (λ g. b .only (ap bitsOf (sym g) ∙ p), λ g. bits-same (payload l vs) bytes (bytes-payload l vs (b .holds)) h (p ∙ sym (b .plain g)));
 }

@@ -125,8 +125,8 @@ written-front l vs before after h room short b a e =
     let whole : lays l vs s ≡ record { place = 0 + length (writes l 0 vs); bits = laid 0 (writes l 0 vs) (bitsOf before) } = lays-put l vs s (omega arith) fit ∙ put-fits (writes l 0 vs) s fit in
     let k = length-payload l vs in
     let back : drop (0 + length (writes l 0 vs)) (bitsOf before) ≡ bitsOf (drop (length (payload l vs)) before) =
-        let m : 0 + length (writes l 0 vs) ≡ 8 * length (payload l vs) = omega arith in
-        ap (λ i. drop i (bitsOf before)) m ∙ sym (bits-drop (length (payload l vs)) before) in
+    let m : 0 + length (writes l 0 vs) ≡ 8 * length (payload l vs) = omega arith in
+    ap (λ i. drop i (bitsOf before)) m ∙ sym (bits-drop (length (payload l vs)) before) in
     bits-same after (fronted (payload l vs) before) a (bytes-append (payload l vs) (drop (length (payload l vs)) before) (bytes-payload l vs h) (bytes-drop (length (payload l vs)) before b))
     (e ∙ ap (λ x. x .bits) whole ∙ (λ i. sym (bits-payload l vs h) i ++ back i) ∙ sym (bits-append (payload l vs) (drop (length (payload l vs)) before)))
 

@@ -52,10 +52,10 @@ unfolding nextU nextUe
 next-below w v s t e =
     ⊎-elim
     (λ b.
-        let f : Ok (number (take w (s .rest)), past w s) ≡ Ok (v, t) = rw b at e in
-        let n : number (take w (s .rest)) ≡ v = ok-parts f .0 in
-        let long : length (take w (s .rest)) ≡ w = length-take-le w (s .rest) (leb-true w (length (s .rest)) b) in
-        subst (λ x. x < 2 ^ w) n (subst (λ x. number (take w (s .rest)) < 2 ^ x) long (number-lt (take w (s .rest)))))
+    let f : Ok (number (take w (s .rest)), past w s) ≡ Ok (v, t) = rw b at e in
+    let n : number (take w (s .rest)) ≡ v = ok-parts f .0 in
+    let long : length (take w (s .rest)) ≡ w = length-take-le w (s .rest) (leb-true w (length (s .rest)) b) in
+    subst (λ x. x < 2 ^ w) n (subst (λ x. number (take w (s .rest)) < 2 ^ x) long (number-lt (take w (s .rest)))))
     (λ b. let f : Err (Short (s .place)) ≡ Ok (v, t) = rw b at e in let z : _≡_ {A = ℕ} 0 1 = cc in absurd (omega arith))
     (cases-bool (leb w (length (s .rest))))
 

@@ -27,7 +27,7 @@ laid p xs all = take p all ++ (xs ++ drop (p + length xs) all)
 unfoldable pub put : List Bool → Sheet → Sheet
 put bs s = record {
   place = min (s .place + length bs) (2 ^ 64 - 1);
-  bits = cond (leb (s .place + length bs) (min (length (s .bits)) 524280)) (laid (s .place) bs (s .bits)) (s .bits)
+  bits = cond (leb (s .place + length bs) (min (length (s .bits)) 524280)) (laid (s .place) bs (s .bits)) (s .bits);
 }
 
 -- a sheet after a record of these numbers

@@ -4,6 +4,7 @@ use mathlib.Core.Bool.{Bool, true, false, cond, _&&_}
 use mathlib.Core.List.{List, [], _∷_}
 use Prim.Native.Nat.{ℕ}
 use lib.Dec.{eqb}
+use lib.ListN.{getD}
 use Rattle.std.specs.declared.option.Option.{Option}
 use Rattle.std.specs.declared.option.Option.the-variants.{Some, None}
 use Rattle.std.specs.declared.result.Result.{Result}
@@ -45,7 +46,7 @@ canceling number greatest content stay = record {
   payload = λ vs. payload (cancelable content) (0 ∷ vs);
   Proper = λ vs. Holds content vs;
   stay = stay;
-  agrees = λ _ _. true
+  agrees = λ _ _. true;
 }
 
 -- Messages that cannot cancel, all of one content, which stays.
@@ -57,7 +58,7 @@ constant number greatest content = record {
   payload = λ vs. payload content vs;
   Proper = λ vs. Holds content vs;
   stay = λ _. Stays;
-  agrees = equal
+  agrees = equal;
 }
 
 -- once where a period or persistence is 0
@@ -66,12 +67,9 @@ lasting n = cond (eqb n 0) Once Stays
 
 -- ---- the kinds
 
+-- its period is the fourth number
 abbrev pub orientationStay : List ℕ → Stay
-orientationStay [] = Stays
-orientationStay (h ∷ []) = Stays
-orientationStay (h ∷ (v ∷ [])) = Stays
-orientationStay (h ∷ (v ∷ (rotation ∷ []))) = Stays
-orientationStay (h ∷ (v ∷ (rotation ∷ (period ∷ vs)))) = lasting period
+orientationStay vs = lasting (getD vs 3 0)
 
 abbrev pub orientationRules : Rules
 orientationRules = canceling 47 9 orientation.content orientationStay
@@ -79,9 +77,9 @@ orientationRules = canceling 47 9 orientation.content orientationStay
 abbrev pub levelRules : Rules
 levelRules = constant 144 6 level.layout
 
+-- its persistence is the first number
 abbrev pub cubemapStay : List ℕ → Stay
-cubemapStay [] = Stays
-cubemapStay (persistence ∷ vs) = lasting persistence
+cubemapStay vs = lasting (getD vs 0 0)
 
 abbrev pub cubemapRules : Rules
 cubemapRules = canceling 151 3 cubemap.content cubemapStay

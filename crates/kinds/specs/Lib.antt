@@ -1,4 +1,5 @@
 pub mod Contents
+pub mod Examples
 pub mod Faults
 pub mod Model
 pub mod Outcome

@@ -42,6 +42,7 @@ reads-holds l p vs e = short (leb (length p) 65535) e
     fields : (r : Result (List ℕ) FieldFault) → reads l (from p 0) ≡ r → asPayload r ≡ Ok vs → Holds l vs
     fields (Ok ws) f g = lawful l .reads-records p vs (f ∙ (let h : ws ≡ vs = cc in ap Ok h))
     fields (Err e) f g = ok-err g
+
     short : (b : Bool) → cond b (asPayload (reads l (from p 0))) (Err TooLong) ≡ Ok vs → Holds l vs
     short true f = fields (reads l (from p 0)) refl f
     short false f = ok-err f
@@ -58,7 +59,7 @@ module _ (number greatest n : ℕ) (content : Layout) (takes : Takes content n) 
   constantRuled most = record {
     says-proper = λ p vs e. said p vs (readsAs content p) refl e;
     says-back = λ vs h. ap always (reads-payload content vs h (omega (arith, takes vs h)));
-    fits = λ vs h. omega (arith, length-framed number (payload content vs), length-payload content vs, takes vs h)
+    fits = λ vs h. omega (arith, length-framed number (payload content vs), length-payload content vs, takes vs h);
   }
     where
       said : (p vs : List ℕ) (r : Result (List ℕ) PayloadFault) → readsAs content p ≡ r → always r ≡ Ok (Some vs) → Holds content vs
@@ -76,11 +77,12 @@ module _ (number greatest n : ℕ) (content : Layout) (takes : Takes content n) 
   cancelingRuled most = record {
     says-proper = λ p vs e. said p vs (readsAs (cancelable content) p) refl e;
     says-back = λ vs h. ap uncanceled (reads-payload (cancelable content) (0 ∷ vs) (omega arith, h) (omega (arith, whole (0 ∷ vs) (omega arith, h))));
-    fits = λ vs h. omega (arith, length-framed number (payload (cancelable content) (0 ∷ vs)), length-payload (cancelable content) (0 ∷ vs), whole (0 ∷ vs) (omega arith, h))
+    fits = λ vs h. omega (arith, length-framed number (payload (cancelable content) (0 ∷ vs)), length-payload (cancelable content) (0 ∷ vs), whole (0 ∷ vs) (omega arith, h));
   }
     where
       whole : Takes (cancelable content) (1 + n)
       whole = takes-cancelable n content takes
+
       said : (p vs : List ℕ) (r : Result (List ℕ) PayloadFault) → readsAs (cancelable content) p ≡ r → uncanceled r ≡ Ok (Some vs) → Holds content vs
       said p vs (Ok []) f g = none-some g
       said p vs (Ok (c ∷ ws)) f g = behind content ws vs (eqb c 1) (reads-holds (cancelable content) p (c ∷ ws) f .1) g
@@ -92,9 +94,9 @@ pub orientationRuled : Ruled orientationRules
 orientationRuled =
     cancelingRuled 47 9 48 orientation.content
     (takes-flag 47 (λ _. flag λ _. field (u 16) λ _. field (within ue (atMost 16384)) λ _. extension)
-      (λ _. takes-flag 46 (λ _. field (u 16) λ _. field (within ue (atMost 16384)) λ _. extension)
-        (λ _. takes-u 16 30 (λ _. field (within ue (atMost 16384)) λ _. extension)
-          (λ _. takes-ue-to 14 16384 1 (λ _. extension) (omega arith) (omega arith) (λ _. takes-extension)))))
+    (λ _. takes-flag 46 (λ _. field (u 16) λ _. field (within ue (atMost 16384)) λ _. extension)
+    (λ _. takes-u 16 30 (λ _. field (within ue (atMost 16384)) λ _. extension)
+    (λ _. takes-ue-to 14 16384 1 (λ _. extension) (omega arith) (omega arith) (λ _. takes-extension)))))
     orientationStay (omega arith) (omega arith)
 
 pub levelRuled : Ruled levelRules

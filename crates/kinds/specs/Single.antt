@@ -85,7 +85,7 @@ single r = record {
   Sound = Sound r;
   turned = λ m mark. cond mark None (outlasts m);
   offered = λ m p. says r m (r .reads p);
-  part = partOf r
+  part = partOf r;
 }
 
 -- a kind's content, in force

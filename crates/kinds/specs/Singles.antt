@@ -65,7 +65,7 @@ module _ (r : Rules) (h : Ruled r) where
     idle = idles;
     bare = refl;
     fits = fitting;
-    replay = replays
+    replay = replays;
   }
 
 -- proper contents in force are sound

@@ -49,7 +49,11 @@ pub impl Content for Cubemap as CubemapContent {
     }
 
     fn stay(&self) -> Stay {
-        if self.persistence { Stay::Stays } else { Stay::Once }
+        if self.persistence {
+            Stay::Stays
+        } else {
+            Stay::Once
+        }
     }
 
     fn agrees(&self, _held: &Cubemap) -> bool {

@@ -49,7 +49,11 @@ pub impl Content for DisplayOrientation as DisplayOrientationContent {
     }
 
     fn stay(&self) -> Stay {
-        if self.period.pictures == 0 { Stay::Once } else { Stay::Stays }
+        if self.period.pictures == 0 {
+            Stay::Once
+        } else {
+            Stay::Stays
+        }
     }
 
     fn agrees(&self, _held: &DisplayOrientation) -> bool {

@@ -22,12 +22,12 @@ orientation-same o p h v r d = λ i. record {
   «vertical_flip» = v i;
   rotation = r i;
   period = d i;
-  fits = isProp→PathP (λ j. r j < 2 ^ 16) (λ j. le-prop) (o .fits) (p .fits) i
+  fits = isProp→PathP (λ j. r j < 2 ^ 16) (λ j. le-prop) (o .fits) (p .fits) i;
 }
 
 pub level-same : (l m : ContentLightLevel) → l .greatest ≡ m .greatest → l .«greatest_average» ≡ m .«greatest_average» → l ≡ m
 level-same l m g a = λ i. record {
   greatest = g i;
   «greatest_average» = a i;
-  fits = isProp→PathP (λ j. (g j < 2 ^ 16) × (a j < 2 ^ 16)) (λ j. ×-prop le-prop le-prop) (l .fits) (m .fits) i
+  fits = isProp→PathP (λ j. (g j < 2 ^ 16) × (a j < 2 ^ 16)) (λ j. ×-prop le-prop le-prop) (l .fits) (m .fits) i;
 }

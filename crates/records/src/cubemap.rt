@@ -5,11 +5,22 @@ use crate::record::Record;
 use fields::fault::FieldFault;
 use fields::reader::Reader;
 use fields::writer::Writer;
+use std::fmt;
 
 #[derive(Clone, Copy, PartialEq, Eq, Debug)]
 pub struct Cubemap {
     // whether it stays in force beyond its picture
     pub persistence: bool,
+}
+
+pub impl fmt::Display for Cubemap as CubemapDisplay {
+    fn fmt<W: fmt::Write>(&self, f: &mut fmt::Formatter<W>) -> fmt::Result {
+        let persistence = self.persistence as u8;
+        write!(
+            f,
+            "cubemap projection: the six faces of a cube, persistence {persistence}"
+        )
+    }
 }
 
 pub impl Record for Cancelable<Cubemap> as CubemapRecord {

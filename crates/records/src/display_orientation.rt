@@ -3,6 +3,7 @@ ghost use Prim.Native.Nat.{_^_, _<_};
 use crate::period::Period;
 use crate::period::PeriodDebug;
 use crate::period::PeriodPartialEq;
+use std::fmt;
 
 pub mod record;
 
@@ -14,4 +15,29 @@ pub struct DisplayOrientation {
     pub rotation: u16,
     pub period: Period,
     ghost fits: { rotation < 2 ^ 16 },
+}
+
+impl DisplayOrientation {
+    fn flips(&self) -> &'static str {
+        match (self.horizontal_flip, self.vertical_flip) {
+            (false, false) => "not flipped",
+            (true, false) => "flipped left to right",
+            (false, true) => "flipped upside down",
+            (true, true) => "flipped left to right and upside down",
+        }
+    }
+}
+
+pub impl fmt::Display for DisplayOrientation as DisplayOrientationDisplay {
+    fn fmt<W: fmt::Write>(&self, f: &mut fmt::Formatter<W>) -> fmt::Result {
+        let flips = self.flips();
+        let hundredths = self.rotation as u32 * 36_000 / 65_536;
+        let degrees = hundredths / 100;
+        let rest = hundredths % 100;
+        let period = self.period.pictures;
+        write!(
+            f,
+            "display orientation: {flips}, turned {degrees}.{rest:02} degrees anticlockwise, period {period}"
+        )
+    }
 }

@@ -12,16 +12,18 @@ pub returns-then-end-self : need.returns-then-end-self
 returns-then-end-self c = record {
   reads = (
     ap (λ (x : Code). next x (left (c .args .self .now))) (fixed-narrow (c .args .width) (omega arith))
-    ∙ next-short (c .args .self .now .bytes .now) (c .args .self .now .at) (c .args .width) (omega arith) (omega arith),
-    (refl, refl));
-  fits = tt
+        ∙ next-short (c .args .self .now .bytes .now) (c .args .self .now .at) (c .args .width) (omega arith) (omega arith),
+    (refl, refl),
+  );
+  fits = tt;
 }
 
 pub returns : need.returns
 returns c = record {
   reads = (
     ap (λ (x : Code). next x (left (c .args .self .now))) (fixed-narrow (c .args .width) (omega arith))
-    ∙ next-whole (c .args .self .now .bytes .now) (c .args .self .now .at) (c .args .width) _ (omega arith) (c .window-value .ensures),
-    refl);
-  fits = taken-below (c .args .width) _ _ (c .window-value .ensures)
+        ∙ next-whole (c .args .self .now .bytes .now) (c .args .self .now .at) (c .args .width) _ (omega arith) (c .window-value .ensures),
+    refl,
+  );
+  fits = taken-below (c .args .width) _ _ (c .window-value .ensures);
 }

@@ -16,8 +16,8 @@ word-requires c κs = elim (c .if-width-gt32 .came) [ then-width-gt32 w ↦ omeg
 pub returns : need.returns
 returns c =
     let digits : word (c .if-width-gt32 .digits) (c .args .value) ≡ coded (fixed (c .args .width)) (c .args .value) =
-        elim (c .if-width-gt32 .came) [
-          then-width-gt32 w ↦ ap (λ (n : ℕ). word n (c .args .value)) (w .digits-is) ∙ sym (coded-wide (c .args .width) (c .args .value) (w .if-width-gt32 .taken))
-        | else-width-gt32 w ↦ ap (λ (n : ℕ). word n (c .args .value)) (w .digits-is) ∙ sym (coded-narrow (c .args .width) (c .args .value) (w .if-width-gt32 .left))
-        ] in
+    elim (c .if-width-gt32 .came) [
+      | then-width-gt32 w ↦ ap (λ (n : ℕ). word n (c .args .value)) (w .digits-is) ∙ sym (coded-wide (c .args .width) (c .args .value) (w .if-width-gt32 .taken))
+      | else-width-gt32 w ↦ ap (λ (n : ℕ). word n (c .args .value)) (w .digits-is) ∙ sym (coded-narrow (c .args .width) (c .args .value) (w .if-width-gt32 .left))
+    ] in
     record { after = c .word .ensures .after ∙ ap (λ (l : List Bool). put l (sheet (c .args .self .now))) digits; lent = c .word .ensures .lent }

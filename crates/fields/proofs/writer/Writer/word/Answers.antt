@@ -16,12 +16,12 @@ pub returns : need.returns
 returns c =
     let end : c .saturating-add-end .result ≡ min (c .args .self .now .at + c .args .width) (2 ^ 64 - 1) = omega arith in
     elim (c .if-end-min .came) [
-      then-end-min w ↦ record {
+      | then-end-min w ↦ record {
         after = moved _ _ _ _ end (w .self-is) ∙ word-fits (c .args .self .now .bytes .now) (w .lay .last .bytes) (c .args .self .now .at) (c .args .width) (c .args .value) (omega (arith, w .if-end-min .taken)) (omega (arith, w .if-end-min .taken)) (w .lay .ensures);
-        lent = ap (λ (x : Writer). name (x .bytes)) (w .self-is)
+        lent = ap (λ (x : Writer). name (x .bytes)) (w .self-is);
       }
-    | else-end-min w ↦ record {
+      | else-end-min w ↦ record {
         after = moved _ _ _ _ end (w .self-is) ∙ word-past (c .args .self .now .bytes .now) (c .args .self .now .at) (c .args .width) (c .args .value) (omega (arith, w .if-end-min .left));
-        lent = ap (λ (x : Writer). name (x .bytes)) (w .self-is)
+        lent = ap (λ (x : Writer). name (x .bytes)) (w .self-is);
       }
     ]

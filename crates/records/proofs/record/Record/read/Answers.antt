@@ -15,5 +15,5 @@ returns g c =
     let bytes = c .args .payload .now in
     record {
       value = reads-whole (g .Self·Record .layout) bytes _ (omega arith) (c .new .ensures) _ (c .in-Continue-record .ensures tt);
-      plain = lawful (g .Self·Record .layout) .same-when-plain bytes _ (bytes-from bytes (λ i. omega (arith, c .typed .payload i))) (reads-first (g .Self·Record .layout) bytes _ (omega arith) (c .new .ensures) _ (c .in-Continue-record .ensures tt))
+      plain = lawful (g .Self·Record .layout) .same-when-plain bytes _ (bytes-from bytes (λ i. omega (arith, c .typed .payload i))) (reads-first (g .Self·Record .layout) bytes _ (omega arith) (c .new .ensures) _ (c .in-Continue-record .ensures tt));
     }

@@ -20,7 +20,7 @@ returns-then-len-buffer g c =
     record {
       answer = ap (λ (x : Result ℕ ShortBuffer × List ℕ). x .0) w;
       bytes = ap (λ (x : Result ℕ ShortBuffer × List ℕ). x .1) w;
-      reads = reads-back l vs holds short
+      reads = reads-back l vs holds short;
     }
 
 pub returns : need.returns
@@ -33,5 +33,5 @@ returns g c =
     record {
       answer = ap (λ (x : Result ℕ ShortBuffer × List ℕ). x .0) w;
       bytes = ap (λ (x : Result ℕ ShortBuffer × List ℕ). x .1) w;
-      reads = reads-back l vs holds short
+      reads = reads-back l vs holds short;
     }

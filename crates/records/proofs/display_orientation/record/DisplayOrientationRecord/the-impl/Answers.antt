@@ -18,9 +18,11 @@ apart-law (Set o) (Set p) e =
 
 pub short-law : need.short-law
 short-law vs h =
-    omega (arith,
+    omega (
+      arith,
       takes-cancelable 48 content
-      (takes-flag 47 (λ _. flag λ _. field (u 16) λ _. field (within ue (atMost 16384)) λ _. extension)
-        (λ _. takes-flag 46 (λ _. field (u 16) λ _. field (within ue (atMost 16384)) λ _. extension)
+          (takes-flag 47 (λ _. flag λ _. field (u 16) λ _. field (within ue (atMost 16384)) λ _. extension)
+          (λ _. takes-flag 46 (λ _. field (u 16) λ _. field (within ue (atMost 16384)) λ _. extension)
           (λ _. takes-u 16 30 (λ _. field (within ue (atMost 16384)) λ _. extension)
-            (λ _. takes-ue-to 14 16384 1 (λ _. extension) (omega arith) (omega arith) (λ _. takes-extension))))) vs h)
+          (λ _. takes-ue-to 14 16384 1 (λ _. extension) (omega arith) (omega arith) (λ _. takes-extension))))) vs h,
+    )
