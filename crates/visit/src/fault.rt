@@ -9,6 +9,8 @@ use kinds::fault::OfferFault;
 use kinds::fault::OfferFaultDebug;
 use kinds::fault::OfferFaultFault;
 use kinds::fault::OfferFaultPartialEq;
+use fields::fault::LayerDisplay;
+use std::fmt;
 
 #[derive(Clone, Copy, PartialEq, Eq, Debug)]
 pub enum Refusal {
@@ -73,5 +75,15 @@ pub impl Fault for Refusal as RefusalFault {
             Refusal::Missing => 0,
             Refusal::ShortBuffer => 0,
         }
+    }
+}
+
+// The number, the layer and the place, as in `refused 9 payload 2`.
+pub impl fmt::Display for Refusal as RefusalDisplay {
+    fn fmt<W: fmt::Write>(&self, f: &mut fmt::Formatter<W>) -> fmt::Result {
+        let number = self.number();
+        let layer = self.layer();
+        let place = self.place();
+        write!(f, "refused {number} {layer} {place}")
     }
 }
