@@ -96,7 +96,7 @@ module _ (bs : List ℕ) (p : ℕ) (within : p ≤ 8 * length bs) where
       rw (lt-leb 32 (zeros l) (omega arith), lt-leb (zeros l + 1 + zeros l) (length l) (omega (arith, length-from bs p)))
 
   pub ue-whole : (z v : ℕ) → z ≡ zeros (drop p (bitsOf bs)) → z < 32 → 2 * z + 1 ≤ 8 * length bs - p → v ≡ number (take (z + 1) (drop (p + z) (bitsOf bs)))
-      → (1 ≤ v) × (next ue (from bs p) ≡ Ok (v - 1, from bs (p + (2 * z + 1))))
+      → (1 ≤ v) × (next ue (from bs p) ≡ Ok (v - 1, from bs (p + 2 * z + 1)))
   unfolding nextU nextUe
   ue-whole z v e k h f =
       let l = drop p (bitsOf bs) in
@@ -104,5 +104,5 @@ module _ (bs : List ℕ) (p : ℕ) (within : p ≤ 8 * length bs) where
       let q = ue-number l (omega arith) in
       let g : v ≡ number (take (zeros l + 1) (drop (zeros l) l)) =
       f ∙ ap (λ x. number (take (x + 1) (drop (p + x) (bitsOf bs)))) e ∙ sym (ap (λ x. number (take (zeros l + 1) x)) (drop-drop (zeros l) p (bitsOf bs))) in
-      let w : zeros l + 1 + zeros l ≡ 2 * z + 1 = omega arith in
+      let w : p + (zeros l + 1 + zeros l) ≡ p + 2 * z + 1 = omega arith in
       (omega (arith, q .0), rw (lt-leb 32 (zeros l) (omega arith), le-leb (zeros l + 1 + zeros l) (length l) (omega arith), q .1, sym g, drop-drop (zeros l + 1 + zeros l) p (bitsOf bs), w))

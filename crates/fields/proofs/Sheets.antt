@@ -84,16 +84,9 @@ ue-none v h = rw (le-ltb (v + 1) (2 ^ 32) h)
 
 -- ---- how a payload is closed
 
-pub close-none : (s : Sheet) → s .place % 8 ≡ 0 → s .place < 2 ^ 64 → s ≡ put (closing (s .place)) s
-unfolding closing
-close-none s h k = sym (ap (λ b. put (cond b [] (true ∷ replicate (7 - s .place % 8) false)) s) (eq-eqb (s .place % 8) 0 h) ∙ put-none s k)
-
-pub close-word : (p : ℕ) → 0 < p % 8 → word (8 - p % 8) ((1 * 2 ^ (7 - p % 8)) % 2 ^ 32) ≡ closing p
-close-word p h =
-    let held = p % 8 in
-    let v = (1 * 2 ^ (7 - held)) % 2 ^ 32 in
-    let spare : (8 - held) % 8 ≡ 8 - held = omega arith in
+pub close-word : (p : ℕ) → word ((8 - p % 8) % 8) ((1 * 2 ^ ((8 - p % 8) % 8)) % 2 ^ 64 / 2 ^ 1) ≡ closing p
+close-word p =
+    let spare = (8 - p % 8) % 8 in
     let ci = closing-is p in
-    let e : (8 - held) % 8 ≡ suc (7 - held) = omega arith in
-    let same : number (closing p) ≡ v = ci .1 ∙ ap (λ x. 2 ^ x / 2) e ∙ half (7 - held) ∙ sym (one-shl (7 - held) 32 (omega arith)) in
-    ap (word (8 - held)) (sym same) ∙ word-of (closing p) (8 - held) (ci .0 ∙ spare)
+    let same : number (closing p) ≡ (1 * 2 ^ spare) % 2 ^ 64 / 2 ^ 1 = ci .1 ∙ ap (λ x. x / 2) (sym (one-shl spare 64 (omega arith))) in
+    ap (word spare) (sym same) ∙ word-of (closing p) spare (ci .0)

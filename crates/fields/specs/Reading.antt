@@ -2,8 +2,8 @@
 use mathlib.Core.Path.{_≡_}
 use mathlib.Core.Bool.{Bool}
 use mathlib.Core.List.{List}
-use Prim.Native.Nat.{ℕ}
-use lib.ListN.{drop}
+use Prim.Native.Nat.{ℕ, _*_, _≤_}
+use lib.ListN.{length, drop}
 use denote.Ref.{now}
 use lib.IntN.{ℤ}
 use mir.Syntax.{w32}
@@ -22,6 +22,11 @@ from bytes p = record { place = p; rest = drop p (bitsOf bytes) }
 -- what a reader has before it
 abbrev pub left : Reader → Left
 left r = from (now (r .bytes)) (r .at)
+
+-- the field c at the bit p of the bytes: its number and the bit behind it, or why it is refused
+abbrev pub Found : Code → List ℕ → ℕ → Result (ℕ × ℕ) FieldFault → Type 0
+Found c bytes p (Ok a) = (next c (from bytes p) ≡ Ok (a .0, from bytes (a .1))) × (a .1 ≤ 8 * length bytes)
+Found c bytes p (Err e) = next c (from bytes p) ≡ Err e
 
 -- the same bytes, at the same place
 abbrev pub Stays : Reader → Reader → Type 0

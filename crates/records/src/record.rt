@@ -2,7 +2,7 @@
 ghost use mathlib.Core.Path.{_≡_};
 ghost use mathlib.Core.List.{List};
 ghost use mathlib.Core.Logic.{_↔_};
-ghost use Prim.Native.Nat.{ℕ, _≤_};
+ghost use Prim.Native.Nat.{ℕ, _/_, _≤_};
 ghost use lib.ListN.{length};
 ghost use denote.Ref.{name};
 ghost use Rattle.std.specs.Vec.{made};
@@ -57,15 +57,16 @@ pub trait Record: Sized {
         Ok(record)
     }
 
-    // The length of its payload, told by a writer with no room.
+    // The length of its payload, told by a writer with no room. The payload reads as this record.
     fn payload_len(&self) -> usize
         ensures value { λ r. ⌜ r ≡ length (payloadOf layout (numbers (now (self .entry)))) ⌝ }
         ensures holds { λ _. ⌜ Holds layout (numbers (now (self .entry))) ⌝ }
+        ensures reads { λ _. ⌜ readsAs layout (payloadOf layout (numbers (now (self .entry)))) ≡ Ok (numbers (now (self .entry))) ⌝ }
     {
         let mut none: [u8; 0] = [];
         let mut counter = Writer::new(&mut none);
         self.encode(&mut counter);
-        counter.len() / 8
+        whole_bytes(counter.len())
     }
 
     // Writes its payload to the buffer's front and answers its length. The payload reads as this record.
@@ -82,4 +83,11 @@ pub trait Record: Sized {
         self.encode(&mut writer);
         Ok(len)
     }
+}
+
+// The bytes that so many bits fill.
+fn whole_bytes(bits: usize) -> usize
+    ensures { λ r. ⌜ r ≡ bits / 8 ⌝ }
+{
+    bits / 8
 }

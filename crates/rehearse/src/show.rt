@@ -22,24 +22,27 @@ use visit::visit::Visit;
 
 // Shows every thing in force, upward by type.
 pub fn show(rt: &LibcRuntime, visit: &Visit<Shipped>) -> io::Result<()> {
-    println!(rt, "show: in force:")?;
-    show_content::<DisplayOrientationContent>(rt, visit)?;
-    show_content::<ContentLightLevelContent>(rt, visit)?;
-    show_content::<CubemapContent>(rt, visit)
+    println!(rt, "show:")?;
+    let orientation = show_content::<DisplayOrientationContent>(rt, visit)?;
+    let level = show_content::<ContentLightLevelContent>(rt, visit)?;
+    let cubemap = show_content::<CubemapContent>(rt, visit)?;
+    if orientation || level || cubemap {
+        return Ok(());
+    }
+    println!(rt, "  nothing is in force")
 }
 
-// Shows the thing of a kind that holds one, as a look hands it out.
-fn show_content<C: Content + Display>(rt: &LibcRuntime, visit: &Visit<Shipped>) -> io::Result<()> {
+// Shows the thing of a kind that holds one, as a look hands it out; false where nothing of it is in force.
+fn show_content<C: Content + Display>(rt: &LibcRuntime, visit: &Visit<Shipped>) -> io::Result<bool> {
     let mut buffer = [0u8; 16];
     let kind = C::type_number();
     let Ok(len) = visit.look(kind, 0, &mut buffer) else {
-        return Ok(());
+        return Ok(false);
     };
-    match C::read(front(&buffer, len)) {
-        Ok(Some(content)) => {
-            let stay = content.stay();
-            println!(rt, "  {kind} {content}; {stay}")
-        }
-        _ => Ok(()),
-    }
+    let Ok(Some(content)) = C::read(front(&buffer, len)) else {
+        return Ok(false);
+    };
+    let stay = content.stay();
+    println!(rt, "  {kind} {content}; {stay}")?;
+    Ok(true)
 }

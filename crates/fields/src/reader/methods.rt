@@ -1,11 +1,11 @@
 // The methods of a reader: each answers a field and goes on behind it, or refuses it and stays.
 ghost use mathlib.Core.Path.{_≡_};
-ghost use Prim.Native.Nat.{ℕ, _+_, _-_, _*_, _^_, _<_, _≤_};
+ghost use Prim.Native.Nat.{ℕ, _+_, _-_, _*_, _^_, _<_, _≤_, min};
 ghost use lib.ListN.{length, take, drop};
 ghost use Rattle.std.specs.Vec.{made};
-ghost use Rattle.fields.specs.Bits.{number, bitsOf};
+ghost use Rattle.fields.specs.Bits.{number, bitsOf, zeros};
 ghost use Rattle.fields.specs.Layout.{fixed, ue, within, atMost, closes, extends};
-ghost use Rattle.fields.specs.Reading.{from, left, Reads, ReadsFlag, ReadsSigned};
+ghost use Rattle.fields.specs.Reading.{from, left, Found, Reads, ReadsFlag, ReadsSigned};
 use crate::fault::FieldFault;
 use crate::reader::Reader;
 
@@ -14,9 +14,8 @@ impl<'a> Reader<'a> {
     pub fn new(bytes: &'a [u8]) -> Reader<'a>
         ensures { λ r. ⌜ left r ≡ from (take 65535 (now (bytes .entry))) 0 ⌝ }
     {
-        let len = bytes.len().min(65_535);
         Reader {
-            bytes: &bytes[0..len],
+            bytes: limited(bytes),
             at: 0,
         }
     }
@@ -26,14 +25,7 @@ impl<'a> Reader<'a> {
         ensures reads { λ r. ⌜ Reads (fixed width) (now (self .entry)) r (now (self .exit)) ⌝ }
         ensures fits { λ r. ⌜ made r (λ v. v < 2 ^ width) ⌝ }
     {
-        if width > 32 {
-            return Err(FieldFault::OutOfRange(self.at));
-        }
-        let end = self.at + width as usize;
-        if end > self.bytes.len() * 8 {
-            return Err(FieldFault::Short(self.at));
-        }
-        let value = window(self.bytes, self.at, width);
+        let (value, end) = fixed_at(self.bytes, self.at, width)?;
         self.at = end;
         Ok(value)
     }
@@ -55,19 +47,8 @@ impl<'a> Reader<'a> {
     pub fn ue(&mut self) -> Result<u32, FieldFault>
         ensures { λ r. ⌜ Reads ue (now (self .entry)) r (now (self .exit)) ⌝ }
     {
-        let room = self.bytes.len() * 8 - self.at;
-        let ahead = room.min(32) as u32;
-        let head = window(self.bytes, self.at, ahead);
-        let zeros = head.leading_zeros() - (32 - ahead);
-        if zeros == 32 {
-            return Err(FieldFault::OutOfRange(self.at));
-        }
-        let width = 2 * zeros as usize + 1;
-        if room < width {
-            return Err(FieldFault::Short(self.at));
-        }
-        let value = window(self.bytes, self.at + zeros as usize, zeros + 1) - 1;
-        self.at += width;
+        let (value, behind) = ue_at(self.bytes, self.at)?;
+        self.at = behind;
         Ok(value)
     }
 
@@ -89,16 +70,7 @@ impl<'a> Reader<'a> {
     pub fn close(self) -> Result<(), FieldFault>
         ensures { λ r. ⌜ r ≡ closes (left (self .entry)) ⌝ }
     {
-        let room = self.bytes.len() * 8 - self.at;
-        let spare = (8 - self.at % 8) % 8;
-        if room != spare {
-            return Err(FieldFault::Ending(self.at));
-        }
-        let last = window(self.bytes, self.at, spare as u32);
-        if last != (1 << spare) >> 1 {
-            return Err(FieldFault::Ending(self.at));
-        }
-        Ok(())
+        ends_at(self.bytes, self.at)
     }
 
     // The same after an extension bit, which lets anything follow where it is set.
@@ -107,6 +79,75 @@ impl<'a> Reader<'a> {
     {
         if self.flag()? { Ok(()) } else { self.close() }
     }
+}
+
+// The first 65,535 bytes.
+fn limited(bytes: &[u8]) -> &[u8]
+    ensures value { λ r. ⌜ now r ≡ take 65535 (now (bytes .entry)) ⌝ }
+    ensures bound { λ r. ⌜ length (now r) ≤ 65535 ⌝ }
+{
+    let len = bytes.len().min(65_535);
+    &bytes[0..len]
+}
+
+// The number in the next `width` bits from the bit `at` on, and the bit behind them.
+fn fixed_at(bytes: &[u8], at: usize, width: u32) -> Result<(u32, usize), FieldFault>
+    requires { ⌜ at ≤ 8 * length (now bytes) ⌝ ∗ ⌜ length (now bytes) ≤ 65535 ⌝ }
+    ensures found { λ r. ⌜ Found (fixed width) (now (bytes .entry)) at r ⌝ }
+    ensures fits { λ r. ⌜ made r (λ a. a .0 < 2 ^ width) ⌝ }
+{
+    if width > 32 {
+        return Err(FieldFault::OutOfRange(at));
+    }
+    let end = at + width as usize;
+    if end > bytes.len() * 8 {
+        return Err(FieldFault::Short(at));
+    }
+    Ok((window(bytes, at, width), end))
+}
+
+// The ue field from the bit `at` on, and the bit behind it.
+fn ue_at(bytes: &[u8], at: usize) -> Result<(u32, usize), FieldFault>
+    requires { ⌜ at ≤ 8 * length (now bytes) ⌝ ∗ ⌜ length (now bytes) ≤ 65535 ⌝ }
+    ensures { λ r. ⌜ Found ue (now (bytes .entry)) at r ⌝ }
+{
+    let zeros = zeros_at(bytes, at);
+    if zeros == 32 {
+        return Err(FieldFault::OutOfRange(at));
+    }
+    let end = at + 2 * zeros as usize + 1;
+    if end > bytes.len() * 8 {
+        return Err(FieldFault::Short(at));
+    }
+    let value = window(bytes, at + zeros as usize, zeros + 1) - 1;
+    Ok((value, end))
+}
+
+// How many zeros come next, up to 32.
+fn zeros_at(bytes: &[u8], at: usize) -> u32
+    requires { ⌜ at ≤ 8 * length (now bytes) ⌝ ∗ ⌜ length (now bytes) ≤ 65535 ⌝ }
+    ensures { λ r. ⌜ r ≡ min 32 (zeros (drop at (bitsOf (now (bytes .entry))))) ⌝ }
+{
+    let ahead = (bytes.len() * 8 - at).min(32) as u32;
+    let head = window(bytes, at, ahead);
+    head.leading_zeros() - (32 - ahead)
+}
+
+// Whether a payload ends at the bit `at`.
+fn ends_at(bytes: &[u8], at: usize) -> Result<(), FieldFault>
+    requires { ⌜ at ≤ 8 * length (now bytes) ⌝ ∗ ⌜ length (now bytes) ≤ 65535 ⌝ }
+    ensures { λ r. ⌜ r ≡ closes (from (now (bytes .entry)) at) ⌝ }
+{
+    let room = bytes.len() * 8 - at;
+    let spare = (8 - at % 8) % 8;
+    if room != spare {
+        return Err(FieldFault::Ending(at));
+    }
+    let last = window(bytes, at, spare as u32);
+    if last != (1 << spare) >> 1 {
+        return Err(FieldFault::Ending(at));
+    }
+    Ok(())
 }
 
 // The number in the `width` bits from the bit `at` on: the bytes that hold them are joined, and what stands after and before is cut off.

@@ -1,7 +1,7 @@
 // The methods of a writer: each writes a field where it fits, and goes on behind it in any case.
 ghost use mathlib.Core.Path.{_≡_};
 ghost use mathlib.Core.List.{[]};
-ghost use Prim.Native.Nat.{_+_, _-_, _*_, _/_, _≤_};
+ghost use Prim.Native.Nat.{ℕ, _+_, _-_, _*_, _/_, _%_, _^_, _<_, _≤_};
 ghost use lib.ListN.{length};
 ghost use denote.Ref.{name};
 ghost use mir.Syntax.{w32};
@@ -32,8 +32,7 @@ impl<'a> Writer<'a> {
         ensures after { λ _. ⌜ sheet (now (self .exit)) ≡ put (coded (fixed width) value) (sheet (now (self .entry))) ⌝ }
         ensures lent { λ _. ⌜ name (now (self .exit) .bytes) ≡ name (now (self .entry) .bytes) ⌝ }
     {
-        let digits = if width > 32 { 0 } else { width };
-        self.word(digits, value as u64);
+        self.word(digits(width), value as u64);
     }
 
     pub fn flag(&mut self, on: bool)
@@ -64,10 +63,8 @@ impl<'a> Writer<'a> {
         ensures after { λ _. ⌜ sheet (now (self .exit)) ≡ put (closing (now (self .entry) .at)) (sheet (now (self .entry))) ⌝ }
         ensures lent { λ _. ⌜ name (now (self .exit) .bytes) ≡ name (now (self .entry) .bytes) ⌝ }
     {
-        let held = (self.at % 8) as u32;
-        if held > 0 {
-            self.bits(8 - held, 1 << (7 - held));
-        }
+        let spare = spare_bits(self.at);
+        self.word(spare, (1 << spare) >> 1);
     }
 
     // The same after an extension bit, which is written as 0.
@@ -92,6 +89,22 @@ impl<'a> Writer<'a> {
         }
         self.at = end;
     }
+}
+
+// How many bits of a number of `width` bits are written: none of one above 32.
+fn digits(width: u32) -> u32
+    ensures digits { λ r. ⌜ ((v : ℕ) → word r v ≡ coded (fixed width) v) ⌝ }
+    ensures few { λ r. ⌜ r ≤ 64 ⌝ }
+{
+    if width > 32 { 0 } else { width }
+}
+
+// How many bits close a payload that ends at the bit `at`.
+fn spare_bits(at: usize) -> u32
+    ensures digits { λ r. ⌜ word r ((1 * 2 ^ r) % 2 ^ 64 / 2 ^ 1) ≡ closing at ⌝ }
+    ensures few { λ r. ⌜ r < 8 ⌝ }
+{
+    ((8 - at % 8) % 8) as u32
 }
 
 // How many digits of `value + 1` make a ue field, the zeros before it among them.

@@ -7,21 +7,8 @@ use Rattle.std.specs.declared.result.Result.{Result}
 use Rattle.fields.specs.declared.fault.ShortBuffer.{ShortBuffer}
 use Rattle.fields.specs.Payloads.{size}
 use Rattle.fields.specs.Writing.{sheet}
-use Rattle.records.proofs.Whole.{reads-back, written-short, written-whole}
+use Rattle.records.proofs.Whole.{written-whole}
 use Rattle.records.proofs.record.Record.write.Needs as need
-
-pub returns-then-len-buffer : need.returns-then-len-buffer
-returns-then-len-buffer g c =
-    let l = g .Self·Record .layout in
-    let vs = g .Self·Record .numbers (c .args .self .now) in
-    let holds = c .payload-len-len .ensures .holds in
-    let short : size l vs ≤ 65535 = omega (arith, g .Self·Record·met .short vs holds, g .Self·Record·met .limited) in
-    let w = written-short l vs holds short (c .args .buffer .now) (omega arith) in
-    record {
-      answer = ap (λ (x : Result ℕ ShortBuffer × List ℕ). x .0) w;
-      bytes = ap (λ (x : Result ℕ ShortBuffer × List ℕ). x .1) w;
-      reads = reads-back l vs holds short;
-    }
 
 pub returns : need.returns
 returns g c =
@@ -33,5 +20,5 @@ returns g c =
     record {
       answer = ap (λ (x : Result ℕ ShortBuffer × List ℕ). x .0) w;
       bytes = ap (λ (x : Result ℕ ShortBuffer × List ℕ). x .1) w;
-      reads = reads-back l vs holds short;
+      reads = c .payload-len-len .ensures .reads;
     }
