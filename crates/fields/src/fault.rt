@@ -17,10 +17,10 @@ pub enum Layer {
 pub impl fmt::Display for Layer as LayerDisplay {
     fn fmt<W: fmt::Write>(&self, f: &mut fmt::Formatter<W>) -> fmt::Result {
         match *self {
-            Layer::Source => write!(f, "source"),
-            Layer::Unit => write!(f, "unit"),
-            Layer::Payload => write!(f, "payload"),
-            Layer::Visit => write!(f, "visit"),
+            Self::Source => write!(f, "source"),
+            Self::Unit => write!(f, "unit"),
+            Self::Payload => write!(f, "payload"),
+            Self::Visit => write!(f, "visit"),
         }
     }
 }

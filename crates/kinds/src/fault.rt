@@ -34,8 +34,8 @@ pub enum OfferFault {
 pub impl From<PayloadFault> for OfferFault as OfferFaultFromPayload {
     ghost converts = { λ e r. r ≡ PayloadCase e };
 
-    fn from(fault: PayloadFault) -> OfferFault {
-        OfferFault::Payload(fault)
+    fn from(payload: PayloadFault) -> OfferFault {
+        OfferFault::Payload(payload)
     }
 }
 

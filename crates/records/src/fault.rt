@@ -20,8 +20,8 @@ pub enum PayloadFault {
 pub impl From<FieldFault> for PayloadFault as PayloadFaultFromField {
     ghost converts = { λ e r. r ≡ Field e };
 
-    fn from(fault: FieldFault) -> PayloadFault {
-        PayloadFault::Field(fault)
+    fn from(field: FieldFault) -> PayloadFault {
+        PayloadFault::Field(field)
     }
 }
 

@@ -24,7 +24,8 @@ impl<'a> Writer<'a> {
     pub fn len(&self) -> usize
         ensures { λ r. ⌜ r ≡ sheet (now (self .entry)) .place ⌝ }
     {
-        self.at
+        let Writer { at, .. } = self;
+        *at
     }
 
     // The `width` lowest bits of `value`, highest first; a width above 32 is none.
