@@ -16,6 +16,7 @@ use Rattle.records.specs.Record.{readsAs}
 use Rattle.records.specs.ContentLightLevel as level
 use Rattle.records.specs.Cubemap as cubemap
 use Rattle.records.specs.DisplayOrientation as orientation
+use Rattle.records.specs.Equirectangular as equirectangular
 use Rattle.kinds.specs.declared.in_force.Stay.{Stay}
 use Rattle.kinds.specs.declared.in_force.Stay.the-variants.{Once, Stays}
 use Rattle.kinds.specs.Single.{Rules}
@@ -76,6 +77,13 @@ orientationRules = canceling 47 9 orientation.content orientationStay
 
 abbrev pub levelRules : Rules
 levelRules = constant 144 6 level.layout
+
+-- its persistence is the first number
+abbrev pub equirectangularStay : List ℕ → Stay
+equirectangularStay vs = lasting (getD vs 0 0)
+
+abbrev pub equirectangularRules : Rules
+equirectangularRules = canceling 150 5 equirectangular.content equirectangularStay
 
 -- its persistence is the first number
 abbrev pub cubemapStay : List ℕ → Stay

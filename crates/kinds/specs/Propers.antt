@@ -1,17 +1,23 @@
 -- Every content is one that a payload can say.
 use mathlib.Core.Path.{_≡_, refl, ap, _∙_}
-use mathlib.Core.Bool.{Bool, true, false}
+use mathlib.Core.Bool.{Bool, true, false, not}
 use native.Mathlib.Omega.{arith}
 use Prim.Native.Nat.{ℕ, _<_, _≤_}
+use Rattle.std.specs.declared.option.Option.{Option}
+use Rattle.std.specs.declared.option.Option.the-variants.{Some, None}
 use Rattle.fields.specs.Bits.{bit}
+use Rattle.fields.specs.Layout.{flag, reserved, unless, Holds}
 use Rattle.fields.proofs.Steps.{at-most}
 use Rattle.records.specs.declared.content_light_level.ContentLightLevel.{ContentLightLevel}
 use Rattle.records.specs.declared.cubemap.Cubemap.{Cubemap}
 use Rattle.records.specs.declared.display_orientation.DisplayOrientation.{DisplayOrientation}
+use Rattle.records.specs.declared.equirectangular.Equirectangular.{Equirectangular}
+use Rattle.records.specs.declared.equirectangular.GuardBand.{GuardBand}
 use Rattle.records.specs.ContentLightLevel as level
 use Rattle.records.specs.Cubemap as cubemap
 use Rattle.records.specs.DisplayOrientation as orientation
-use Rattle.kinds.specs.Contents.{orientationRules, levelRules, cubemapRules}
+use Rattle.records.specs.Equirectangular as equirectangular
+use Rattle.kinds.specs.Contents.{orientationRules, levelRules, equirectangularRules, cubemapRules}
 
 bit-small : (b : Bool) → bit b < 2
 bit-small true = omega arith
@@ -22,6 +28,13 @@ orientationProper o = (bit-small (o .«horizontal_flip»), (bit-small (o .«vert
 
 pub levelProper : (l : ContentLightLevel) → levelRules .Proper (level.numbers l)
 levelProper l = (l .fits .0, (l .fits .1, tt))
+
+bandProper : (o : Option GuardBand) → Holds (flag λ guardBand. reserved 2 (unless (not guardBand) equirectangular.band)) (equirectangular.bandNumbers o)
+bandProper None = (omega arith, tt)
+bandProper (Some g) = (omega arith, (g .fits .0, (g .fits .1 .0, (g .fits .1 .1, tt))))
+
+pub equirectangularProper : (e : Equirectangular) → equirectangularRules .Proper (equirectangular.contentNumbers e)
+equirectangularProper e = (bit-small (e .persistence), bandProper (e .«guard_band»))
 
 pub cubemapProper : (c : Cubemap) → cubemapRules .Proper (cubemap.contentNumbers c)
 cubemapProper c = (bit-small (c .persistence), tt)

@@ -25,9 +25,11 @@ use Rattle.records.specs.Record.{asPayload, readsAs}
 use Rattle.records.specs.ContentLightLevel as level
 use Rattle.records.specs.Cubemap as cubemap
 use Rattle.records.specs.DisplayOrientation as orientation
+use Rattle.records.specs.Equirectangular as equirectangular
+use Rattle.records.proofs.Lengths.{equirectangular-takes}
 use Rattle.kinds.specs.declared.in_force.Stay.{Stay}
 use Rattle.kinds.specs.Single.{Rules, Ruled}
-use Rattle.kinds.specs.Contents.{uncanceled, always, canceling, constant, orientationStay, orientationRules, levelRules, cubemapStay, cubemapRules}
+use Rattle.kinds.specs.Contents.{uncanceled, always, canceling, constant, orientationStay, orientationRules, levelRules, equirectangularStay, equirectangularRules, cubemapStay, cubemapRules}
 
 ok-err : {A B E : Type 0} {a : A} {e : E} → _≡_ {A = Result A E} (Err e) (Ok a) → B
 ok-err h = let z : _≡_ {A = ℕ} 0 1 = cc in absurd (omega arith)
@@ -101,6 +103,9 @@ orientationRuled =
 
 pub levelRuled : Ruled levelRules
 levelRuled = constantRuled 144 6 32 level.layout (takes-u 16 16 (λ _. field (u 16) λ _. close) (λ _. takes-u 16 0 (λ _. close) (λ _. takes-close))) (omega arith) (omega arith)
+
+pub equirectangularRuled : Ruled equirectangularRules
+equirectangularRuled = cancelingRuled 150 5 23 equirectangular.content equirectangular-takes equirectangularStay (omega arith) (omega arith)
 
 pub cubemapRuled : Ruled cubemapRules
 cubemapRuled = cancelingRuled 151 3 1 cubemap.content (takes-flag 0 (λ _. close) (λ _. takes-close)) cubemapStay (omega arith) (omega arith)

@@ -3,6 +3,7 @@ pub mod content;
 pub mod content_light_level;
 pub mod cubemap;
 pub mod display_orientation;
+pub mod equirectangular;
 pub mod examples;
 pub mod fault;
 pub mod in_force;

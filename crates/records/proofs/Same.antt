@@ -8,6 +8,7 @@ use Prim.Native.Nat.{_^_, _<_, _≤_}
 use Rattle.fields.specs.Bits.{bit}
 use Rattle.records.specs.declared.content_light_level.ContentLightLevel.{ContentLightLevel}
 use Rattle.records.specs.declared.display_orientation.DisplayOrientation.{DisplayOrientation}
+use Rattle.records.specs.declared.equirectangular.GuardBand.{GuardBand}
 use Rattle.records.specs.declared.period.Period.{Period}
 
 pub bit-same : (a b : Bool) → bit a ≡ bit b → a ≡ b
@@ -30,4 +31,12 @@ level-same l m g a = λ i. record {
   greatest = g i;
   «greatest_average» = a i;
   fits = isProp→PathP (λ j. (g j < 2 ^ 16) × (a j < 2 ^ 16)) (λ j. ×-prop le-prop le-prop) (l .fits) (m .fits) i;
+}
+
+pub band-same : (g h : GuardBand) → g .«guard_type» ≡ h .«guard_type» → g .«left_width» ≡ h .«left_width» → g .«right_width» ≡ h .«right_width» → g ≡ h
+band-same g h t l r = λ i. record {
+  «guard_type» = t i;
+  «left_width» = l i;
+  «right_width» = r i;
+  fits = isProp→PathP (λ j. (t j < 2 ^ 3) × ((l j < 2 ^ 8) × (r j < 2 ^ 8))) (λ j. ×-prop le-prop (×-prop le-prop le-prop)) (g .fits) (h .fits) i;
 }

@@ -3,6 +3,7 @@ pub mod cancelable;
 pub mod content_light_level;
 pub mod cubemap;
 pub mod display_orientation;
+pub mod equirectangular;
 pub mod fault;
 pub mod period;
 pub mod record;
