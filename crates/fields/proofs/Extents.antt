@@ -32,6 +32,10 @@ pub takes-u : (w n : ℕ) (l : ℕ → Layout) → ((v : ℕ) → Takes (l v) n)
 takes-u w n l t [] h = absurd h
 takes-u w n l t (v ∷ vs) h = omega (arith, length-word w v, t v vs (h .1))
 
+pub takes-within : (w n : ℕ) (ok : ℕ → Verdict) (l : ℕ → Layout) → ((v : ℕ) → Takes (l v) n) → Takes (field (within (u w) ok) l) (w + n)
+takes-within w n ok l t [] h = absurd h
+takes-within w n ok l t (v ∷ vs) h = omega (arith, length-word w v, t v vs (h .1))
+
 pub takes-flag : (n : ℕ) (l : Bool → Layout) → ((b : Bool) → Takes (l b) n) → Takes (flag l) (1 + n)
 takes-flag n l t = takes-u 1 n (λ v. l (eqb v 1)) (λ v. t (eqb v 1))
 

@@ -1,6 +1,6 @@
 -- The next field, by the bytes and the place that a reader holds.
 use mathlib.Core.Path.{_≡_, refl, sym, ap, _∙_, subst}
-use mathlib.Core.Bool.{Bool, true, false, cond}
+use mathlib.Core.Bool.{Bool, true, false, cond, _&&_}
 use mathlib.Core.List.{List, [], _∷_, _++_}
 use mathlib.Core.Logic.{⊎-elim}
 use Prim.Native.Nat.{ℕ, zero, suc, _+_, _-_, _*_, _/_, _%_, _^_, _≤_, _<_, min}
@@ -8,14 +8,19 @@ use native.Mathlib.Omega.{arith}
 use lib.Pow.{pow-mono}
 use lib.Dec.{leb, eqb}
 use lib.ListN.{length, getD, take, drop, length-take, length-drop}
+use lib.IntN.{ℤ}
+use lib.Signed.{leZ, _≤ℤ_, _<ℤ_}
+use mir.Syntax.{w32}
+use mir.Val.{SFits, ofZ, toZ}
 use lib.Seq.{drop-drop, length-take-le, take-all}
+use Rattle.std.proofs.shelf.Signed.{ints, toZ-ofZ}
 use Rattle.std.proofs.shelf.Tests.{le-leb, lt-leb, leb-true, cases-bool, cases-lt}
 use Rattle.std.specs.declared.result.Result.{Result}
 use Rattle.std.specs.declared.result.Result.the-variants.{Ok, Err}
 use Rattle.fields.specs.declared.fault.FieldFault.{FieldFault}
 use Rattle.fields.specs.declared.fault.FieldFault.the-variants.{Short, OutOfRange, PastLimit, Ending}
 use Rattle.fields.specs.Bits.{bit, word, number, bitsOf, zeros}
-use Rattle.fields.specs.Layout.{Left, past, andThen, Verdict, fine, outOfRange, pastLimit, judged, atMost, Code, u, ue, within, fixed, next, nextU, nextUe}
+use Rattle.fields.specs.Layout.{Left, past, andThen, Verdict, fine, outOfRange, pastLimit, judged, atMost, between, Code, u, ue, within, fixed, next, nextU, nextUe}
 use Rattle.fields.specs.Reading.{from}
 use Rattle.fields.proofs.Numbers.{length-bits, number-lt}
 
@@ -87,6 +92,24 @@ at-most m v h = rw (le-leb v m h)
 
 pub above-most : (m v : ℕ) → m < v → atMost m v ≡ outOfRange
 above-most m v h = rw (lt-leb v m h)
+
+leZ-so : (a b : ℤ) → a ≤ℤ b → leZ a b ≡ true
+leZ-so a b h = grind (arith, ints)
+
+leZ-not : (a b : ℤ) → b <ℤ a → leZ a b ≡ false
+leZ-not a b h = grind (arith, ints)
+
+pub between-fine : (low high x : ℤ) → SFits w32 x → low ≤ℤ x → x ≤ℤ high → between low high (ofZ w32 x) ≡ fine
+unfolding between
+between-fine low high x f l h = rw (toZ-ofZ w32 x f, leZ-so low x l, leZ-so x high h)
+
+pub below-low : (low high x : ℤ) → SFits w32 x → x <ℤ low → between low high (ofZ w32 x) ≡ outOfRange
+unfolding between
+below-low low high x f l = rw (toZ-ofZ w32 x f, leZ-not low x l)
+
+pub above-high : (low high x : ℤ) → SFits w32 x → low ≤ℤ x → high <ℤ x → between low high (ofZ w32 x) ≡ outOfRange
+unfolding between
+above-high low high x f l h = rw (toZ-ofZ w32 x f, leZ-so low x l, leZ-not x high h)
 
 pub taken-below : (w v : ℕ) (l : List Bool) → v ≡ number (take w l) → v < 2 ^ w
 taken-below w v l e =

@@ -1,11 +1,15 @@
 -- How a payload is laid out in bits: how a field is coded, which fields a record has, how it is read and how it is written.
 use mathlib.Core.Path.{_≡_}
-use mathlib.Core.Bool.{Bool, true, false, cond}
+use mathlib.Core.Bool.{Bool, true, false, cond, _&&_}
 use mathlib.Core.List.{List, [], _∷_, _++_}
 use Prim.Native.Nat.{ℕ, zero, suc, _+_, _-_, _*_, _/_, _%_, _^_, _<_, _≤_}
 use lib.Dec.{eqb, leb, ltb}
 use lib.ListN.{length, take, drop, replicate}
 use lib.Count.{leadingZeros}
+use lib.IntN.{ℤ}
+use lib.Signed.{leZ}
+use mir.Syntax.{w32}
+use mir.Val.{toZ}
 use Rattle.std.specs.declared.result.Result.{Result}
 use Rattle.std.specs.declared.result.Result.the-variants.{Ok, Err}
 use Rattle.fields.specs.declared.fault.FieldFault.{FieldFault}
@@ -37,6 +41,14 @@ pub data Verdict : Type 0 where
 -- numbers above `most` are out of range
 abbrev pub atMost : ℕ → ℕ → Verdict
 atMost most n = cond (leb n most) fine outOfRange
+
+-- the signed number whose 32 bits, in two's complement, make n
+abbrev pub signed : ℕ → ℤ
+signed n = toZ w32 n
+
+-- signed numbers below `low` or above `high` are out of range
+unfoldable pub between : ℤ → ℤ → ℕ → Verdict
+between low high n = cond (leZ low (signed n) && leZ (signed n) high) fine outOfRange
 
 -- how a field is coded
 pub data Code : Type 0 where

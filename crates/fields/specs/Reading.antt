@@ -43,6 +43,6 @@ ReadsFlag r (Ok b) q = (next (u 1) (left r) ≡ Ok (bit b, left q)) × (now (q .
 ReadsFlag r (Err e) q = (next (u 1) (left r) ≡ Err e) × Stays r q
 
 -- the same of a signed number of 32 bits, in two's complement
-abbrev pub ReadsSigned : Reader → Result ℤ FieldFault → Reader → Type 0
-ReadsSigned r (Ok x) q = (next (u 32) (left r) ≡ Ok (ofZ w32 x, left q)) × (now (q .bytes) ≡ now (r .bytes))
-ReadsSigned r (Err e) q = (next (u 32) (left r) ≡ Err e) × Stays r q
+abbrev pub ReadsSigned : Code → Reader → Result ℤ FieldFault → Reader → Type 0
+ReadsSigned c r (Ok x) q = (next c (left r) ≡ Ok (ofZ w32 x, left q)) × (now (q .bytes) ≡ now (r .bytes))
+ReadsSigned c r (Err e) q = (next c (left r) ≡ Err e) × Stays r q

@@ -17,6 +17,7 @@ use Rattle.records.specs.ContentLightLevel as level
 use Rattle.records.specs.Cubemap as cubemap
 use Rattle.records.specs.DisplayOrientation as orientation
 use Rattle.records.specs.Equirectangular as equirectangular
+use Rattle.records.specs.SphereRotation as rotation
 use Rattle.kinds.specs.declared.in_force.Stay.{Stay}
 use Rattle.kinds.specs.declared.in_force.Stay.the-variants.{Once, Stays}
 use Rattle.kinds.specs.Single.{Rules}
@@ -91,3 +92,10 @@ cubemapStay vs = lasting (getD vs 0 0)
 
 abbrev pub cubemapRules : Rules
 cubemapRules = canceling 151 3 cubemap.content cubemapStay
+
+-- its persistence is the first number
+abbrev pub rotationStay : List ℕ → Stay
+rotationStay vs = lasting (getD vs 0 0)
+
+abbrev pub rotationRules : Rules
+rotationRules = canceling 154 15 rotation.content rotationStay

@@ -13,11 +13,14 @@ use Rattle.records.specs.declared.cubemap.Cubemap.{Cubemap}
 use Rattle.records.specs.declared.display_orientation.DisplayOrientation.{DisplayOrientation}
 use Rattle.records.specs.declared.equirectangular.Equirectangular.{Equirectangular}
 use Rattle.records.specs.declared.equirectangular.GuardBand.{GuardBand}
+use Rattle.records.specs.declared.sphere_rotation.SphereRotation.{SphereRotation}
 use Rattle.records.specs.ContentLightLevel as level
 use Rattle.records.specs.Cubemap as cubemap
 use Rattle.records.specs.DisplayOrientation as orientation
 use Rattle.records.specs.Equirectangular as equirectangular
-use Rattle.kinds.specs.Contents.{orientationRules, levelRules, equirectangularRules, cubemapRules}
+use Rattle.records.specs.SphereRotation as rotation
+use Rattle.records.proofs.Rotations.{rotation-holds}
+use Rattle.kinds.specs.Contents.{orientationRules, levelRules, equirectangularRules, cubemapRules, rotationRules}
 
 bit-small : (b : Bool) → bit b < 2
 bit-small true = omega arith
@@ -38,3 +41,6 @@ equirectangularProper e = (bit-small (e .persistence), bandProper (e .«guard_ba
 
 pub cubemapProper : (c : Cubemap) → cubemapRules .Proper (cubemap.contentNumbers c)
 cubemapProper c = (bit-small (c .persistence), tt)
+
+pub rotationProper : (r : SphereRotation) → rotationRules .Proper (rotation.contentNumbers r)
+rotationProper = rotation-holds

@@ -26,10 +26,11 @@ use Rattle.records.specs.ContentLightLevel as level
 use Rattle.records.specs.Cubemap as cubemap
 use Rattle.records.specs.DisplayOrientation as orientation
 use Rattle.records.specs.Equirectangular as equirectangular
-use Rattle.records.proofs.Lengths.{equirectangular-takes}
+use Rattle.records.specs.SphereRotation as rotation
+use Rattle.records.proofs.Lengths.{equirectangular-takes, rotation-takes}
 use Rattle.kinds.specs.declared.in_force.Stay.{Stay}
 use Rattle.kinds.specs.Single.{Rules, Ruled}
-use Rattle.kinds.specs.Contents.{uncanceled, always, canceling, constant, orientationStay, orientationRules, levelRules, equirectangularStay, equirectangularRules, cubemapStay, cubemapRules}
+use Rattle.kinds.specs.Contents.{uncanceled, always, canceling, constant, orientationStay, orientationRules, levelRules, equirectangularStay, equirectangularRules, cubemapStay, cubemapRules, rotationStay, rotationRules}
 
 ok-err : {A B E : Type 0} {a : A} {e : E} → _≡_ {A = Result A E} (Err e) (Ok a) → B
 ok-err h = let z : _≡_ {A = ℕ} 0 1 = cc in absurd (omega arith)
@@ -109,3 +110,6 @@ equirectangularRuled = cancelingRuled 150 5 23 equirectangular.content equirecta
 
 pub cubemapRuled : Ruled cubemapRules
 cubemapRuled = cancelingRuled 151 3 1 cubemap.content (takes-flag 0 (λ _. close) (λ _. takes-close)) cubemapStay (omega arith) (omega arith)
+
+pub rotationRuled : Ruled rotationRules
+rotationRuled = cancelingRuled 154 15 103 rotation.content rotation-takes rotationStay (omega arith) (omega arith)

@@ -9,3 +9,4 @@ pub mod fault;
 pub mod in_force;
 pub mod kind;
 pub mod single;
+pub mod sphere_rotation;

@@ -1,3 +1,4 @@
+pub mod Angles
 pub mod ContentLightLevel
 pub mod Cubemap
 pub mod DisplayOrientation
@@ -5,3 +6,4 @@ pub mod Equirectangular
 pub mod Faults
 pub mod Period
 pub mod Record
+pub mod SphereRotation

@@ -7,3 +7,4 @@ pub mod equirectangular;
 pub mod fault;
 pub mod period;
 pub mod record;
+pub mod sphere_rotation;

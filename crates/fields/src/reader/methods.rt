@@ -2,9 +2,10 @@
 ghost use mathlib.Core.Path.{_≡_};
 ghost use Prim.Native.Nat.{ℕ, _+_, _-_, _*_, _^_, _<_, _≤_, min};
 ghost use lib.ListN.{length, take, drop};
+ghost use lib.Signed.{_≤ℤ_};
 ghost use Rattle.std.specs.Vec.{made};
 ghost use Rattle.fields.specs.Bits.{number, bitsOf, zeros};
-ghost use Rattle.fields.specs.Layout.{fixed, ue, within, atMost, closes, extends};
+ghost use Rattle.fields.specs.Layout.{fixed, u, ue, within, atMost, between, closes, extends};
 ghost use Rattle.fields.specs.Reading.{from, left, Found, Reads, ReadsFlag, ReadsSigned};
 use crate::fault::FieldFault;
 use crate::reader::Reader;
@@ -38,9 +39,23 @@ impl<'a> Reader<'a> {
 
     // A signed number of 32 bits, in two's complement.
     pub fn signed(&mut self) -> Result<i32, FieldFault>
-        ensures { λ r. ⌜ ReadsSigned (now (self .entry)) r (now (self .exit)) ⌝ }
+        ensures { λ r. ⌜ ReadsSigned (u 32) (now (self .entry)) r (now (self .exit)) ⌝ }
     {
         Ok(self.bits(32)?.cast_signed())
+    }
+
+    // A signed number of 32 bits, from `low` to `high`.
+    pub fn signed_within(&mut self, low: i32, high: i32) -> Result<i32, FieldFault>
+        ensures reads { λ r. ⌜ ReadsSigned (within (u 32) (between low high)) (now (self .entry)) r (now (self .exit)) ⌝ }
+        ensures fits { λ r. ⌜ made r (λ x. (low ≤ℤ x) × (x ≤ℤ high)) ⌝ }
+    {
+        let start = self.at;
+        let value = self.signed()?;
+        if value < low || value > high {
+            self.at = start;
+            return Err(FieldFault::OutOfRange(start));
+        }
+        Ok(value)
     }
 
     // A ue field: some zeros, a one, and as many bits as there were zeros.
