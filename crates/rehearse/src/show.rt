@@ -4,18 +4,20 @@ use kinds::content::Content;
 use kinds::content_light_level::ContentLightLevelContent;
 use kinds::cubemap::CubemapContent;
 use kinds::display_orientation::DisplayOrientationContent;
+use kinds::equirectangular::EquirectangularContent;
 use kinds::in_force::StayDisplay;
 use kinds::single::SingleKind;
-use records::content_light_level::ContentLightLevel;
+use kinds::sphere_rotation::SphereRotationContent;
 use records::content_light_level::ContentLightLevelDisplay;
-use records::cubemap::Cubemap;
 use records::cubemap::CubemapDisplay;
-use records::display_orientation::DisplayOrientation;
 use records::display_orientation::DisplayOrientationDisplay;
+use records::equirectangular::EquirectangularDisplay;
+use records::sphere_rotation::SphereRotationDisplay;
 use shipped::Shipped;
 use shipped::ShippedSet;
 use std::fmt::Display;
 use std::io;
+use visit::list::BothKinds;
 use visit::list::EndKinds;
 use visit::list::WithKinds;
 use visit::visit::Visit;
@@ -25,8 +27,10 @@ pub fn show(rt: &LibcRuntime, visit: &Visit<Shipped>) -> io::Result<()> {
     println!(rt, "show:")?;
     let orientation = show_content::<DisplayOrientationContent>(rt, visit)?;
     let level = show_content::<ContentLightLevelContent>(rt, visit)?;
+    let equirectangular = show_content::<EquirectangularContent>(rt, visit)?;
     let cubemap = show_content::<CubemapContent>(rt, visit)?;
-    if orientation || level || cubemap {
+    let rotation = show_content::<SphereRotationContent>(rt, visit)?;
+    if orientation || level || equirectangular || cubemap || rotation {
         return Ok(());
     }
     println!(rt, "  nothing is in force")

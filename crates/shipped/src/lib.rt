@@ -2,11 +2,17 @@
 use kinds::content_light_level::ContentLightLevelContent;
 use kinds::cubemap::CubemapContent;
 use kinds::display_orientation::DisplayOrientationContent;
+use kinds::equirectangular::EquirectangularContent;
 use kinds::single::Single;
 use kinds::single::SingleKind;
+use kinds::sphere_rotation::SphereRotationContent;
 use records::content_light_level::ContentLightLevel;
 use records::cubemap::Cubemap;
 use records::display_orientation::DisplayOrientation;
+use records::equirectangular::Equirectangular;
+use records::sphere_rotation::SphereRotation;
+use visit::list::Both;
+use visit::list::BothKinds;
 use visit::list::End;
 use visit::list::EndKinds;
 use visit::list::With;
@@ -16,9 +22,12 @@ use visit::set::Set;
 pub struct Shipped {}
 
 pub impl Set for Shipped as ShippedSet {
-    type List = With<
-        Single<DisplayOrientation>,
-        With<Single<ContentLightLevel>, With<Single<Cubemap>, End>>,
+    type List = Both<
+        With<Single<DisplayOrientation>, With<Single<ContentLightLevel>, End>>,
+        Both<
+            With<Single<Equirectangular>, With<Single<Cubemap>, End>>,
+            With<Single<SphereRotation>, End>,
+        >,
     >;
 }
 
