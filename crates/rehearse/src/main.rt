@@ -6,6 +6,7 @@ use std::fs::File;
 use std::io::BufRead;
 use std::io::BufReader;
 
+mod frame;
 mod session;
 mod show;
 

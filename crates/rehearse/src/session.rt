@@ -1,4 +1,5 @@
 // A rehearsal: a visit of the shipped set, the buffer that its calls use, and what each line answers.
+use crate::frame::show_frame;
 use crate::show::show;
 use kinds::content_light_level::ContentLightLevelContent;
 use kinds::cubemap::CubemapContent;
@@ -60,6 +61,7 @@ impl Session {
             Line::Message { kind, payload } => self.message(rt, kind, payload.as_slice()),
             Line::Look { kind, n } => self.look(rt, kind, n),
             Line::Buffer(len) => self.resize(rt, number, len),
+            Line::Frame { escaped, unit } => show_frame(rt, escaped, unit.as_slice()),
             Line::Show => show(rt, &self.visit),
         }
     }
@@ -95,7 +97,10 @@ impl Session {
                 self.buffer = buffer;
                 println!(rt, "buffer {len}: set")
             }
-            Err(_) => println!(rt, "error: line {number}: there is no memory for a buffer of {len} bytes"),
+            Err(_) => println!(
+                rt,
+                "error: line {number}: there is no memory for a buffer of {len} bytes"
+            ),
         }
     }
 }

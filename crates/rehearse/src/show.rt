@@ -37,7 +37,10 @@ pub fn show(rt: &LibcRuntime, visit: &Visit<Shipped>) -> io::Result<()> {
 }
 
 // Shows the thing of a kind that holds one, as a look hands it out; false where nothing of it is in force.
-fn show_content<C: Content + Display>(rt: &LibcRuntime, visit: &Visit<Shipped>) -> io::Result<bool> {
+fn show_content<C: Content + Display>(
+    rt: &LibcRuntime,
+    visit: &Visit<Shipped>,
+) -> io::Result<bool> {
     let mut buffer = [0u8; 16];
     let kind = C::type_number();
     let Ok(len) = visit.look(kind, 0, &mut buffer) else {

@@ -20,7 +20,7 @@ use Rattle.std.specs.shelf.Text.{allDigits}
 use Rattle.script.specs.Words.{trimmed, front, rest, word, behind}
 use Rattle.script.specs.Hex as hex
 use Rattle.script.specs.Hex.{Reading, read, written}
-use Rattle.script.specs.Lines.{Saying, skipped, picture, clear, message, look, buffer, show, unknownCall, typeWanted, numberWanted, notHex, oddDigits, tooManyWords, named, number, asType, typeNumber, closed, onReading, onNumber, callOf, skips, NoCall, No-call-skipped, Messages-written}
+use Rattle.script.specs.Lines.{Saying, skipped, picture, clear, message, look, buffer, frame, show, unknownCall, typeWanted, numberWanted, notHex, oddDigits, tooManyWords, named, number, asType, typeNumber, closed, onReading, onNumber, callOf, skips, NoCall, No-call-skipped, Messages-written}
 use Rattle.script.specs.declared.line.Name.{Name}
 use Rattle.script.specs.declared.line.Name.the-variants as name
 use Rattle.script.proofs.Reading.{reads-back}
@@ -32,6 +32,7 @@ isSkipped clear = false
 isSkipped (message kind payload) = false
 isSkipped (look kind n) = false
 isSkipped (buffer n) = false
+isSkipped (frame escaped unit) = false
 isSkipped show = false
 isSkipped (unknownCall w) = false
 isSkipped (typeWanted call) = false
@@ -61,6 +62,8 @@ call-kept (Some name.Message) w text = number-kept (typeNumber (word text)) _ _ 
 call-kept (Some name.Look) w text =
     number-kept (typeNumber (word text)) _ _ refl (λ kind. number-kept (number (word (behind text))) _ _ refl (λ n. closed-kept (behind (behind text)) (look kind n) refl))
 call-kept (Some name.Buffer) w text = number-kept (number (word text)) _ _ refl (λ n. closed-kept (behind text) (buffer n) refl)
+call-kept (Some name.Frame) w text =
+    cond-both _ _ _ (λ x. isSkipped x ≡ false) (λ _. reading-kept (read (behind text)) (frame true) (λ bs. refl)) (λ _. reading-kept (read text) (frame false) (λ bs. refl))
 call-kept (Some name.Show) w text = closed-kept text show refl
 
 -- the first word is empty or begins with # just where the line has no call

@@ -18,7 +18,7 @@ use Rattle.std.specs.declared.result.Result.the-variants.{Ok, Err}
 use Rattle.std.specs.shelf.Text.{sameBytes, allDigits}
 use Rattle.script.specs.Words.{word, behind}
 use Rattle.script.specs.Hex.{read}
-use Rattle.script.specs.Lines.{Saying, Says, picture, message, look, typeWanted, numberWanted, named, number, typeNumber, closed, onReading, onNumber, pictureOf, messageOf, lookOf, numbered, callOf, saying}
+use Rattle.script.specs.Lines.{Saying, Says, picture, message, look, typeWanted, numberWanted, named, number, typeNumber, closed, onReading, onNumber, frame, frameOf, pictureOf, messageOf, lookOf, numbered, callOf, saying}
 use Rattle.script.specs.declared.line.Line.{Line}
 use Rattle.script.specs.declared.line.LineFault.{LineFault}
 use Rattle.script.specs.declared.line.Name.{Name}
@@ -52,6 +52,12 @@ module _ (text w rest : List ℕ) (first : w ≡ word text) (second : rest ≡ b
 
   pub picture-old : (w ≡ codes "new" → ⊥) → pictureOf text ≡ closed text (picture false)
   picture-old other = cond-false _ _ _ (differ (word text) (codes "new") (λ h. other (first ∙ h)))
+
+  pub frame-escaped : w ≡ codes "escaped" → frameOf text ≡ onReading (read rest) (frame true)
+  frame-escaped is = cond-true _ _ _ (sameBytes-decides (word text) (codes "escaped") .1 (sym first ∙ is)) ∙ ap (λ l. onReading (read l) (frame true)) (sym second)
+
+  pub frame-clean : (w ≡ codes "escaped" → ⊥) → frameOf text ≡ onReading (read text) (frame false)
+  frame-clean other = cond-false _ _ _ (differ (word text) (codes "escaped") (λ h. other (first ∙ h)))
 
   pub message-is : (kind : ℕ) → Some kind ≡ typeNumber w → messageOf text ≡ onReading (read rest) (message kind)
   message-is kind is =

@@ -36,6 +36,7 @@ pub data Saying : Type 0 where
   message : ℕ → List ℕ → Saying
   look : ℕ → ℕ → Saying
   buffer : ℕ → Saying
+  frame : Bool → List ℕ → Saying
   show : Saying
   unknownCall : List ℕ → Saying
   typeWanted : Name → Saying
@@ -52,6 +53,7 @@ Says s (Ok line.Clear) = s ≡ clear
 Says s (Ok (line.Message kind payload)) = s ≡ message kind (vec-items payload)
 Says s (Ok (line.Look kind n)) = s ≡ look kind n
 Says s (Ok (line.Buffer n)) = s ≡ buffer n
+Says s (Ok (line.Frame escaped unit)) = s ≡ frame escaped (vec-items unit)
 Says s (Ok line.Show) = s ≡ show
 Says s (Err (fault.UnknownCall w)) = s ≡ unknownCall (now w)
 Says s (Err (fault.TypeWanted n)) = s ≡ typeWanted n
@@ -69,7 +71,8 @@ named w =
     (cond (sameBytes w (codes "message")) (Some name.Message)
     (cond (sameBytes w (codes "look")) (Some name.Look)
     (cond (sameBytes w (codes "buffer")) (Some name.Buffer)
-    (cond (sameBytes w (codes "show")) (Some name.Show) None)))))
+    (cond (sameBytes w (codes "frame")) (Some name.Frame)
+    (cond (sameBytes w (codes "show")) (Some name.Show) None))))))
 
 -- the number that a word of decimal digits stands for, below 2 ^ 64
 abbrev pub number : List ℕ → Option ℕ
@@ -117,6 +120,10 @@ lookOf text =
 abbrev pub numbered : Name → (ℕ → Saying) → List ℕ → Saying
 numbered name call text = onNumber (number (word text)) (numberWanted name) (λ n. closed (behind text) (call n))
 
+-- `frame HEX` or `frame escaped HEX`
+abbrev pub frameOf : List ℕ → Saying
+frameOf text = cond (sameBytes (word text) (codes "escaped")) (onReading (hex.read (behind text)) (frame true)) (onReading (hex.read text) (frame false))
+
 -- a call by its name w, with the text behind it
 abbrev pub callOf : Option Name → List ℕ → List ℕ → Saying
 callOf None w text = unknownCall w
@@ -125,6 +132,7 @@ callOf (Some name.Clear) w text = closed text clear
 callOf (Some name.Message) w text = messageOf text
 callOf (Some name.Look) w text = lookOf text
 callOf (Some name.Buffer) w text = numbered name.Buffer buffer text
+callOf (Some name.Frame) w text = frameOf text
 callOf (Some name.Show) w text = closed text show
 
 -- a line is skipped that has no word, or whose first word begins with #

@@ -9,7 +9,7 @@ ghost use Rattle.std.specs.Words.{Boundary};
 ghost use Rattle.std.specs.declared.result.Result.the-variants.{Ok, Err};
 ghost use Rattle.script.specs.Words.{word as wordOf};
 ghost use Rattle.script.specs.Hex.{read, bytes as bytesOf};
-ghost use Rattle.script.specs.Lines.{Saying, Says, named, number, typeNumber, onReading, closed, pictureOf, messageOf, lookOf, buffer, numbered, callOf, saying, No-call-skipped, Messages-written};
+ghost use Rattle.script.specs.Lines.{Saying, Says, named, number, typeNumber, onReading, closed, pictureOf, messageOf, lookOf, frameOf, buffer, frame, numbered, callOf, saying, No-call-skipped, Messages-written};
 use crate::hex::HexFault;
 use crate::hex::decode;
 use crate::words::first_word;
@@ -31,6 +31,8 @@ pub enum Line {
     Look { kind: u32, n: usize },
     // the length of the buffer from here on
     Buffer(usize),
+    // the messages of a unit, given as clean bytes or still escaped
+    Frame { escaped: bool, unit: Vec<u8> },
     // all that is in force
     Show,
 }
@@ -43,6 +45,7 @@ pub enum Name {
     Message,
     Look,
     Buffer,
+    Frame,
     Show,
 }
 
@@ -73,6 +76,7 @@ fn example(name: Name) -> &'static str {
         Name::Message => "message 151 60",
         Name::Look => "look 151 0",
         Name::Buffer => "buffer 8192",
+        Name::Frame => "frame 97 01 60 80",
         Name::Show => "show",
     }
 }
@@ -108,6 +112,7 @@ fn name_of(word: &str) -> Option<Name>
         "message" => Some(Name::Message),
         "look" => Some(Name::Look),
         "buffer" => Some(Name::Buffer),
+        "frame" => Some(Name::Frame),
         "show" => Some(Name::Show),
         _ => None,
     }
@@ -226,6 +231,28 @@ fn buffer<'a>(text: &'a str) -> Result<Line, LineFault<'a>>
     }
 }
 
+// A unit of the words of hex that follow.
+fn unit<'a>(heap: Global, escaped: bool, text: &'a str) -> Result<Line, LineFault<'a>>
+    ensures { λ r. ⌜ Says (onReading (read (now (text .entry))) (frame escaped)) r ⌝ }
+{
+    match bytes_of(heap, text) {
+        Ok(unit) => Ok(Line::Frame { escaped, unit }),
+        Err(fault) => Err(fault),
+    }
+}
+
+// `frame HEX` or `frame escaped HEX`
+fn frame<'a>(heap: Global, text: &'a str) -> Result<Line, LineFault<'a>>
+    ensures { λ r. ⌜ Says (frameOf (now (text .entry))) r ⌝ }
+{
+    let (word, rest) = first_word(text);
+    if word == "escaped" {
+        unit(heap, true, rest)
+    } else {
+        unit(heap, false, text)
+    }
+}
+
 // The call of a name with the words that follow it.
 fn call<'a>(heap: Global, word: &'a str, rest: &'a str) -> Result<Line, LineFault<'a>>
     ensures { λ r. ⌜ Says (callOf (named (now (word .entry))) (now (word .entry)) (now (rest .entry))) r ⌝ }
@@ -239,6 +266,7 @@ fn call<'a>(heap: Global, word: &'a str, rest: &'a str) -> Result<Line, LineFaul
         Name::Message => message(heap, rest),
         Name::Look => look(rest),
         Name::Buffer => buffer(rest),
+        Name::Frame => frame(heap, rest),
         Name::Show => end_of(rest, Line::Show),
     }
 }

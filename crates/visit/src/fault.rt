@@ -4,12 +4,12 @@ ghost use Rattle.visit.specs.declared.fault.Refusal.the-variants.{Offer as Off
 ghost use Rattle.visit.specs.Faults.{lookRefusal, refusalNumber, refusalLayer, refusalPlace};
 use fields::fault::Fault;
 use fields::fault::Layer;
+use fields::fault::LayerDisplay;
 use kinds::fault::LookFault;
 use kinds::fault::OfferFault;
 use kinds::fault::OfferFaultDebug;
 use kinds::fault::OfferFaultFault;
 use kinds::fault::OfferFaultPartialEq;
-use fields::fault::LayerDisplay;
 use std::fmt;
 
 #[derive(Clone, Copy, PartialEq, Eq, Debug)]

@@ -12,5 +12,6 @@ returns-in-rest c =
       differ w (codes "message") (other .not-message),
       differ w (codes "look") (other .not-look),
       differ w (codes "buffer") (other .not-buffer),
+      differ w (codes "frame") (other .not-frame),
       differ w (codes "show") (other .not-show),
     )

@@ -1,0 +1,9 @@
+pub mod Faults
+pub mod Sources
+pub mod Escapes
+pub mod Layers
+pub mod Fills
+pub mod Units
+pub mod Readings
+pub mod Writings
+pub mod Laws
