@@ -14,7 +14,7 @@ use Rattle.std.specs.declared.option.Option.the-variants.{Some, None}
 use Rattle.std.specs.declared.result.Result.{Result}
 use Rattle.std.specs.declared.result.Result.the-variants.{Ok, Err}
 use Rattle.fields.specs.Frames.{Message, framed, frames}
-use Rattle.fields.proofs.Framed.{length-framed}
+use Rattle.fields.proofs.Framed.{length-count, length-framed}
 use Rattle.units.specs.declared.fault.UnitFault.{UnitFault}
 use Rattle.units.specs.declared.fault.UnitFault.the-variants.{Frame}
 use Rattle.units.specs.declared.unescaped.Zeros.the-variants.{None as NoZero}
@@ -164,5 +164,6 @@ lawful = record {
   escapes = λ bs. opened-escaped NoZero bs tt;
   reads = λ bs ms h. ((λ e. read-back bs ms (judgement bs h) e), (λ e. ap judged (e .0) ∙ unit-judged ms (e .1)));
   apart = λ ms ns h k e. same-placed ms ns (sym (unit-judged ms h) ∙ (ap judged e ∙ unit-judged ns k));
+  lengths = λ m. omega (arith, length-framed (m .0) (m .1), length-count (m .0), length-count (length (m .1)));
   judges = λ bs h. either bs (judgement bs h);
 }

@@ -1,20 +1,16 @@
 -- Writing into a buffer from a place on.
 use mathlib.Core.Path.{_≡_, refl, sym, ap, _∙_}
 use mathlib.Core.List.{List, [], _∷_, _++_, append-assoc}
-use mathlib.Core.Bool.{Bool, true, false, cond}
-use Prim.Native.Nat.{ℕ, suc, _+_, _-_, _/_, _<_, _≤_}
+use Prim.Native.Nat.{ℕ, suc, _+_, _-_, _<_, _≤_}
 use native.Mathlib.Omega.{arith}
-use lib.Dec.{leb}
 use lib.ListN.{length, take, drop, set, length-append, length-take, length-drop}
 use lib.Seq.{paste}
 use borrow.Rule.Slice.PartMut.{putMid}
 use Rattle.std.proofs.shelf.Edits.{paste-all, paste-paste}
 use Rattle.std.proofs.shelf.Lists.{set-split, drop-drop}
-use Rattle.std.proofs.shelf.Tests.{cond-true, cond-false, le-leb, lt-leb, leb-true, false≢true}
-use Rattle.std.specs.declared.option.Option.the-variants.{Some, None}
 use Rattle.fields.specs.Frames.{count, framed}
-use Rattle.fields.proofs.Framed.{length-count, count-more, count-last}
-use Rattle.units.specs.Writings.{put, head, limited, fits}
+use Rattle.fields.proofs.Framed.{count-more, count-last}
+use Rattle.units.specs.Writings.{put, head}
 
 -- one after the other
 pub put-put : (at : ℕ) (xs ys buf : List ℕ) → at ≤ length buf → put (at + length xs) ys (put at xs buf) ≡ put at (xs ++ ys) buf
@@ -42,43 +38,10 @@ count-step buf place left h k = put-cons place 255 (count (left - 255)) buf k �
 pub count-end : (buf : List ℕ) (place left : ℕ) → left < 255 → place < length buf → set buf place left ≡ put place (count left) buf
 count-end buf place left h k = put-one place left buf k ∙ ap (λ (xs : List ℕ). put place xs buf) (sym (count-last left h))
 
-pub length-head : (t n : ℕ) → length (head t n) ≡ t / 255 + 1 + (n / 255 + 1)
-length-head t n = simp length-append (omega (arith, length-count t, length-count n))
-
 -- a message is its head and its payload
 pub framed-head : (t : ℕ) (p : List ℕ) → framed (t, p) ≡ head t (length p) ++ p
 unfolding framed
 framed-head t p = sym (append-assoc (count t) (count (length p)) p)
-
--- what an answer tells of its test
-pub some-if : (t : Bool) (x y : ℕ) → Some x ≡ cond t (Some y) None → (t ≡ true) × (x ≡ y)
-some-if true x y e = (refl, cc)
-some-if false x y e = absurd (let z : _≡_ {A = ℕ} 0 1 = cc in omega arith)
-
-pub none-if : (t : Bool) (y : ℕ) → None ≡ cond t (Some y) None → t ≡ false
-none-if true y e = absurd (let z : _≡_ {A = ℕ} 0 1 = cc in omega arith)
-none-if false y e = refl
-
--- whether a message fits
-pub fits-from : (t n at : ℕ) (buf : List ℕ) → limited t n ≡ true → at + (length (head t n) + n) ≤ length buf → fits t n at buf ≡ true
-fits-from t n at buf h k = cond-true (limited t n) _ false h ∙ le-leb (at + (length (head t n) + n)) (length buf) k
-
-pub fits-room : (t n at : ℕ) (buf : List ℕ) → fits t n at buf ≡ true → at + (length (head t n) + n) ≤ length buf
-fits-room t n at buf e = leb-true (at + (length (head t n) + n)) (length buf) (go (limited t n) (leb (at + (length (head t n) + n)) (length buf)) e)
-  where
-    go : (l r : Bool) → cond l r false ≡ true → r ≡ true
-    go true r e = e
-    go false r e = absurd (false≢true e)
-
-pub fits-not : (t n at : ℕ) (buf : List ℕ) → length buf < at + (length (head t n) + n) → fits t n at buf ≡ false
-fits-not t n at buf h = go (limited t n) (leb (at + (length (head t n) + n)) (length buf)) (lt-leb (at + (length (head t n) + n)) (length buf) h)
-  where
-    go : (l r : Bool) → r ≡ false → cond l r false ≡ false
-    go true r e = e
-    go false r e = refl
-
-pub fits-over : (t n at : ℕ) (buf : List ℕ) → limited t n ≡ false → fits t n at buf ≡ false
-fits-over t n at buf e = cond-false (limited t n) (leb (at + (length (head t n) + n)) (length buf)) false e
 
 -- a head and then a payload
 pub message-put : (at end : ℕ) (hd p b0 : List ℕ) → end ≡ at + length hd + length p → end ≤ length b0 →

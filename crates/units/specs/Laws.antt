@@ -12,6 +12,7 @@ use Rattle.units.specs.declared.fault.UnitFault.the-variants.{Frame}
 use Rattle.units.specs.declared.unescaped.Zeros.the-variants.{None}
 use Rattle.units.specs.Escapes.{opened, escaped}
 use Rattle.units.specs.Units.{Limited, AllLimited, unitBytes, placed, judged}
+use Rattle.units.specs.Writings.{framedLength}
 
 -- where a unit is broken: at its last byte, which is not 80; or behind whole messages, where no message stands before the 80
 pub data Broken (bs : List ℕ) (at : ℕ) : Type 0 where
@@ -26,5 +27,7 @@ pub record Lawful : Type 0 where
   pub reads : (bs : List ℕ) (ms : List Message) → areBytes bs ≡ true → (judged bs ≡ Ok (placed 0 ms)) ↔ ((bs ≡ unitBytes ms) × AllLimited ms)
   -- other messages have another framing
   pub apart : (ms ns : List Message) → AllLimited ms → AllLimited ns → unitBytes ms ≡ unitBytes ns → ms ≡ ns
+  -- a message is as long as is told without writing it
+  pub lengths : (m : Message) → length (framed m) ≡ framedLength (m .0) (length (m .1))
   -- any bytes are read as messages, or broken at a place
   pub judges : (bs : List ℕ) → areBytes bs ≡ true → ((ms : List Message) × (judged bs ≡ Ok (placed 0 ms))) ⊎ ((at : ℕ) × (judged bs ≡ Err (Frame at)) × Broken bs at)

@@ -1,5 +1,5 @@
 -- Bytes written into a buffer from a place on.
-use mathlib.Core.List.{List, [], _∷_, _++_}
+use mathlib.Core.List.{List, _++_}
 use mathlib.Core.Bool.{Bool, false, cond}
 use Prim.Native.Nat.{ℕ, _+_}
 use lib.Dec.{leb}
@@ -14,10 +14,14 @@ put at xs buffer = take at buffer ++ (xs ++ drop (at + length xs) buffer)
 abbrev pub head : ℕ → ℕ → List ℕ
 head t n = count t ++ count n
 
+-- the bytes of a message of a type with a payload of a size
+abbrev pub framedLength : ℕ → ℕ → ℕ
+framedLength t n = length (count t) + length (count n) + n
+
 -- whether a type and a size are within the limits
 abbrev pub limited : ℕ → ℕ → Bool
 limited t n = cond (leb t 65535) (leb n 65535) false
 
--- whether a message is within the limits, and a buffer has room for it from a place on
-abbrev pub fits : ℕ → ℕ → ℕ → List ℕ → Bool
-fits t n at buffer = cond (limited t n) (leb (at + (length (head t n) + n)) (length buffer)) false
+-- whether a message is within the limits, and a buffer of a length has room for it from a place on
+abbrev pub fits : ℕ → ℕ → ℕ → ℕ → Bool
+fits t n at len = cond (limited t n) (leb (at + framedLength t n) len) false

@@ -1,12 +1,19 @@
 // Bytes of a source, taken into a lent scratch.
 ghost use mathlib.Core.Path.{_≡_};
-ghost use Rattle.units.specs.Fills.{filling, filled, unfilled};
+ghost use Rattle.units.specs.Fills.{room, filling, filled, unfilled};
 use crate::fault::UnitFault;
 use crate::source::Next;
 use crate::source::Source;
 
 // The bytes of a unit at most.
 pub const LONGEST: usize = 65_536;
+
+// How many bytes a scratch takes.
+fn room_of(scratch: &[u8]) -> usize
+    ensures { λ r. ⌜ r ≡ room (now (scratch .entry)) ⌝ }
+{
+    scratch.len().min(LONGEST)
+}
 
 // Takes the bytes of a source to its end into the scratch's front, and answers how many they are.
 pub fn fill<X: Source>(source: &mut X, scratch: &mut [u8]) -> Result<usize, UnitFault>
@@ -15,7 +22,7 @@ pub fn fill<X: Source>(source: &mut X, scratch: &mut [u8]) -> Result<usize, Unit
     ensures coming { λ _. ⌜ X·Source .coming (now (source .exit)) ≡ unfilled (X·Source .coming (now (source .entry))) (now (scratch .entry)) ⌝ }
     ensures faulty { λ _. ⌜ X·Source .faulty (now (source .exit)) ≡ X·Source .faulty (now (source .entry)) ⌝ }
 {
-    let room = scratch.len().min(LONGEST);
+    let room = room_of(scratch);
     let mut taken = 0;
     loop {
         match source.next() {

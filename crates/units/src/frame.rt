@@ -1,6 +1,6 @@
 // The messages of a unit, read from its bytes.
 ghost use mathlib.Core.Path.{_≡_};
-ghost use Prim.Native.Nat.{_+_};
+ghost use Prim.Native.Nat.{_+_, _-_};
 ghost use lib.ListN.{length};
 ghost use Rattle.std.specs.Results.{mapped};
 ghost use Rattle.units.specs.Units.{unheard, judged};
@@ -122,7 +122,7 @@ pub impl<'a> Iterator for Messages<'a> as MessagesIterator {
 
     ghost ends = { λ _. Unit {0} };
 
-    ghost left = { λ s. length (coming s) };
+    ghost left = { λ s. length (s .body .now) - s .at };
 
     fn next(&mut self) -> Option<Message<'a>> {
         let body = self.body;

@@ -1,10 +1,11 @@
 // Sources of bytes, and the one over clean bytes.
 ghost use mathlib.Core.Path.{_≡_};
 ghost use mathlib.Core.Bool.{Bool, true, false};
-ghost use mathlib.Core.List.{List};
+ghost use mathlib.Core.List.{List, [], _∷_};
 ghost use Prim.Native.Nat.{ℕ};
 ghost use lib.Pow.{areBytes};
-ghost use Rattle.units.specs.Sources.{Pulled, cleanBytes, cleanAreBytes};
+ghost use Rattle.std.specs.Options.{Cases};
+ghost use Rattle.units.specs.Sources.{Pulled, asBytes, cleanBytes, cleanAreBytes};
 
 // What a source answers.
 #[derive(Clone, Copy, PartialEq, Eq, Debug)]
@@ -42,6 +43,7 @@ impl<'a> Clean<'a> {
         Clean::over(bytes)
     }
 
+    // Apart from `new`, since a slice is known to hold bytes only where it is passed on.
     fn over(rest: &'a [u8]) -> Clean<'a>
         ensures { λ r. ⌜ r .rest ≡ rest .entry ⌝ }
     {
@@ -57,12 +59,20 @@ pub impl<'a> Source for Clean<'a> as CleanSource {
     ghost bytes = { cleanAreBytes };
 
     fn next(&mut self) -> Next {
-        let rest = self.rest;
-        if rest.is_empty() {
+        let Some((byte, rest)) = first(self.rest) else {
             return Next::End;
-        }
-        let byte = rest[0];
-        self.rest = &rest[1..];
+        };
+        self.rest = rest;
         Next::Byte(byte)
     }
+}
+
+// The first of some bytes, and those behind it.
+fn first(bytes: &[u8]) -> Option<(u8, &[u8])>
+    ensures { λ r. ⌜ Cases r (asBytes (now (bytes .entry)) ≡ []) (λ p. asBytes (now (bytes .entry)) ≡ p .0 ∷ asBytes (p .1 .now)) ⌝ }
+{
+    if bytes.len() == 0 {
+        return None;
+    }
+    Some((bytes[0], &bytes[1..]))
 }
