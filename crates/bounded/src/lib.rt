@@ -1,4 +1,6 @@
 // A list of at most N values that takes no memory but its own.
+#![tactic(auto)]
+
 ghost use Rattle.std.specs.Prelude.{◌≡◌, true, length};
 ghost use Rattle.bounded.specs.Places.{fills};
 

@@ -1,4 +1,6 @@
 // Type 144, content light level: how bright the pictures get, in candelas per square metre.
+#![tactic(auto)]
+
 ghost use Rattle.std.specs.Prelude.{◌^◌, ◌<◌};
 
 use std::fmt;

@@ -1,4 +1,6 @@
 // Type 151, cubemap projection: the picture is the six faces of a cube.
+#![tactic(auto)]
+
 use std::fmt;
 
 pub mod examples;

@@ -1,4 +1,6 @@
 // Type 47, display orientation: how the picture is flipped and turned before it is shown.
+#![tactic(auto)]
+
 ghost use Rattle.std.specs.Prelude.{◌^◌, ◌<◌};
 
 use records::period::Period;

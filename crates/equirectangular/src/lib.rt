@@ -1,4 +1,6 @@
 // Type 150, equirectangular projection: the picture is a sphere by longitude and latitude.
+#![tactic(auto)]
+
 ghost use Rattle.std.specs.Prelude.{◌^◌, ◌<◌};
 
 use std::fmt;

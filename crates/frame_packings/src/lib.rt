@@ -1,4 +1,6 @@
 // What is in force of frame packing (45): at most four arrangements, each under its id.
+#![tactic(auto)]
+
 pub mod examples;
 pub mod packing;
 pub mod packings;

@@ -1,4 +1,6 @@
 // Type 155, region-wise packing: the regions of the picture, and where each belongs.
+#![tactic(auto)]
+
 ghost use Rattle.std.specs.Prelude.{◌≡◌, ◌^◌, ◌<◌, true, length};
 ghost use Rattle.bounded.specs.Bounded.{items};
 ghost use Rattle.regionwise_packing.specs.Regions.{Sized};

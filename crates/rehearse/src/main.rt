@@ -1,4 +1,6 @@
 // Rehearses a script: reads a call to a line, from a file or from standard input, and prints an answer to each.
+#![tactic(auto)]
+
 use session::Session;
 use sets::set::Set;
 use shipped::Shipped;

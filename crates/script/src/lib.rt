@@ -1,4 +1,6 @@
 // Lines of a script: one line of text as a call, and bytes as hex text.
+#![tactic(auto)]
+
 pub mod hex;
 pub mod line;
 pub mod words;

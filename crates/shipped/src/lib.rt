@@ -1,4 +1,6 @@
 // The set of kinds that the player ships, upward by type.
+#![tactic(auto)]
+
 ghost use Rattle.std.specs.Prelude.{refl};
 ghost use Rattle.book.proofs.Propers.{proper-by};
 

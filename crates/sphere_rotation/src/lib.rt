@@ -1,4 +1,6 @@
 // Type 154, sphere rotation: how the sphere is turned before it is shown.
+#![tactic(auto)]
+
 ghost use Rattle.sphere_rotation.specs.Angles.{Turn, Tilt};
 
 use std::fmt;

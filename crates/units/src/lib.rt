@@ -1,4 +1,6 @@
 // What a clip hands over as messages, and messages as bytes: sources of bytes, and the frame of a unit.
+#![tactic(auto)]
+
 pub mod fault;
 pub mod fill;
 pub mod frame;

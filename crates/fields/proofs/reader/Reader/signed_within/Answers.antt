@@ -8,7 +8,7 @@ use Rattle.fields.proofs.reader.Reader.signed_within.Goals.{then-value-low-via-t
 
 pub returns-then-value-low : goal.returns-then-value-low
 returns-then-value-low c =
-    let x = c.in-ok-value.value in
+    let x = c.in_ok-value.value in
     let f : SFits w32 x = search rules in
     let out : between c.args.low c.args.high (of_z w32 x) ≡ out_of_range =
     elim c.then-value-low.branch [
@@ -16,22 +16,22 @@ returns-then-value-low c =
       | then-value-low-via-else-value-low+then-value-high w ↦ let l : c.args.low ≤ℤ x = omega (arith, ints, w.if-value-low.false) in let h : c.args.high <ℤ x = omega (arith, ints, w.if-value-high.true) in above-high _ _ x f l h
     ] in
     record {
-      reads = (within-out (u 32) (between c.args.low c.args.high) (left c.args.self.now) (of_z w32 x) _ c.in-ok-value.ensures.0 out, (c.in-ok-value.ensures.1, refl));
+      reads = (within-out (u 32) (between c.args.low c.args.high) (left c.args.self.now) (of_z w32 x) _ c.in_ok-value.ensures.0 out, (c.in_ok-value.ensures.1, refl));
       fits = tt;
     }
 
 pub returns : goal.returns
 returns c =
-    let x = c.in-ok-value.value in
+    let x = c.in_ok-value.value in
     let f : SFits w32 x = search rules in
     let low : c.args.low ≤ℤ x = omega (arith, ints) in
     let high : x ≤ℤ c.args.high = omega (arith, ints) in
     let back : x ≡ to_z w32 (of_z w32 x) = sym (to_z-of_z w32 x f) in
     record {
       reads = (
-        within-fine (u 32) (between c.args.low c.args.high) (left c.args.self.now) (of_z w32 x) _ c.in-ok-value.ensures.0 (between-fine _ _ x f low high)
+        within-fine (u 32) (between c.args.low c.args.high) (left c.args.self.now) (of_z w32 x) _ c.in_ok-value.ensures.0 (between-fine _ _ x f low high)
             ∙ ap (λ (y : ℤ). Ok (of_z w32 y, left c.signed.new.self)) back,
-        c.in-ok-value.ensures.1,
+        c.in_ok-value.ensures.1,
       );
       fits = rw (to_z-of_z w32 x f) (low, high);
     }

@@ -11,7 +11,7 @@ moved m n x y e f = λ i. record { place = e i; bits = bits_of (f i).bytes.now }
 
 pub returns : goal.returns
 returns c =
-    let end : c.saturating-add-end.result ≡ min (c.args.self.now.at + c.args.width) (2 ^ 64 - 1) = omega arith in
+    let end : c.saturating_add-end.result ≡ min (c.args.self.now.at + c.args.width) (2 ^ 64 - 1) = omega arith in
     elim c.if-end-min.branch [
       | then-end-min w ↦ record {
         after = moved _ _ _ _ end w.self-is ∙ word_fits c.args.self.now.bytes.now w.lay.new.bytes c.args.self.now.at c.args.width c.args.value (omega (arith, w.if-end-min.true)) (omega (arith, w.if-end-min.true)) w.lay.ensures;
