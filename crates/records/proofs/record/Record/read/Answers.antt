@@ -5,15 +5,15 @@ use Rattle.fields.proofs.Records.{bytes-from}
 use Rattle.records.proofs.Whole.{reads_first, reads_whole}
 use Rattle.records.proofs.record.Record.read.Goals as goal
 
-pub returns-in-err-record : goal.returns-in-err-record
-returns-in-err-record g c =
-    let p = err_from_is_err_and c.from-residual.result c.from-residual.ensures.1 in
-    rw (p.1, p.2) (record { value = reads_whole g.Self.Record.layout c.args.payload.now _ (omega arith) c.new.ensures _ c.in-err-record.ensures; plain = tt })
+pub returns-in_err-record : goal.returns-in_err-record
+returns-in_err-record g c =
+    let p = err_from_is_err_and c.from_residual.result c.from_residual.ensures.1 in
+    rw (p.1, p.2) (record { value = reads_whole g.Self.Record.layout c.args.payload.now _ (omega arith) c.new.ensures _ c.in_err-record.ensures; plain = tt })
 
 pub returns : goal.returns
 returns g c =
     let bytes = c.args.payload.now in
     record {
-      value = reads_whole g.Self.Record.layout bytes _ (omega arith) c.new.ensures _ c.in-ok-record.ensures;
-      plain = (lawful g.Self.Record.layout).same_when_plain bytes _ (bytes-from bytes (λ i. omega (arith, c.type-inv.payload i))) (reads_first g.Self.Record.layout bytes _ (omega arith) c.new.ensures _ c.in-ok-record.ensures);
+      value = reads_whole g.Self.Record.layout bytes _ (omega arith) c.new.ensures _ c.in_ok-record.ensures;
+      plain = (lawful g.Self.Record.layout).same_when_plain bytes _ (bytes-from bytes (λ i. omega (arith, c.type_inv.payload i))) (reads_first g.Self.Record.layout bytes _ (omega arith) c.new.ensures _ c.in_ok-record.ensures);
     }

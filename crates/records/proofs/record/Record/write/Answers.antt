@@ -9,11 +9,11 @@ pub returns : goal.returns
 returns g c =
     let l = g.Self.Record.layout in
     let vs = g.Self.Record.numbers c.args.self.now in
-    let holds = c.payload-len-len.ensures.holds in
+    let holds = c.payload_len-len.ensures.holds in
     let short : size l vs ≤ 65535 = omega (arith, g.met.Self.Record.short vs holds, g.met.Self.Record.limited) in
-    let w = written-whole l vs holds short c.args.buffer.now _ c.payload-len-len.result (sheet c.new-writer.result) _ c.payload-len-len.ensures.value (omega arith) (λ i. search rules) (λ i. omega (arith, c.type-inv.buffer i)) (search rules) c.encode.ensures.after (search rules) in
+    let w = written-whole l vs holds short c.args.buffer.now _ c.payload_len-len.result (sheet c.new-writer.result) _ c.payload_len-len.ensures.value (omega arith) (λ i. search rules) (λ i. omega (arith, c.type_inv.buffer i)) (search rules) c.encode.ensures.after (search rules) in
     record {
       answer = ap (λ (x : Result ℕ ShortBuffer × List ℕ). x.0) w;
       bytes = ap (λ (x : Result ℕ ShortBuffer × List ℕ). x.1) w;
-      reads = c.payload-len-len.ensures.reads;
+      reads = c.payload_len-len.ensures.reads;
     }
