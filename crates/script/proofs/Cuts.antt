@@ -1,9 +1,7 @@
 -- Where a text is cut into words.
 use Rattle.std.proofs.Common.{◌≡◌, ℕ, zero, suc, ◌<◌, ◌≤◌, true, false, List, [], ◌∷◌, length, get_or, take, drop, sym, refl, ap, ◌∙◌, arith}
 use Rattle.std.proofs.lemmas.Bool.{cond-true, cond-false}
-use Rattle.std.proofs.lemmas.Bool.Decides.{nat_tests}
 use Rattle.std.specs.Char.{is_ascii_whitespace}
-use Rattle.std.specs.Str.{IsCharBoundary}
 use Rattle.script.specs.Words.{trimmed, front, rest}
 
 -- the place n is the first that holds a blank, or the end
@@ -31,13 +29,6 @@ rest-is [] zero h = refl
 rest-is [] (suc n) h = refl
 rest-is (c ∷ cs) zero h = sym (cond-true _ _ _ (h.blank (omega arith)))
 rest-is (c ∷ cs) (suc n) h = rest-is cs n (after c cs n h) ∙ sym (cond-false _ _ _ (h.before 0 (omega arith)))
-
-blank-low : (c : ℕ) → is_ascii_whitespace c ≡ true → c < 128
-blank-low c white = grind (arith, nat_tests)
-
--- no character is split there
-pub front_cut : (text : List ℕ) (n : ℕ) → Front text n → IsCharBoundary text n
-front_cut text n h = (h.within, λ lt high. absurd (omega (arith, blank-low (get_or text n 0) (h.blank lt))))
 
 -- what `trim_ascii_start` leaves
 pub trimmed-is : (text : List ℕ) (n : ℕ) → ((i : ℕ) → i < n → is_ascii_whitespace (get_or text i 0) ≡ true) → n ≤ length text → (n < length text → is_ascii_whitespace (get_or text n 0) ≡ false) → trimmed text ≡ drop n text

@@ -1,8 +1,6 @@
 -- Hex text: what is written reads back, what each turn of the reader keeps, and how a text grows by a byte.
-use Rattle.std.proofs.Common.{◌≡◌, ℕ, zero, suc, ◌+◌, ◌-◌, ◌*◌, ◌/◌, ◌%◌, ◌<◌, ◌≤◌, true, false, List, [], ◌∷◌, ◌++◌, length, get_or, take, drop, is_some, IfSome, Some, None, IsUtf8, Option, sym, refl, ap, ◌∙◌, append_assoc, append-nil, arith, rules}
-use lib.Utf8.{encode}
+use Rattle.std.proofs.Common.{◌≡◌, ℕ, zero, suc, ◌+◌, ◌*◌, ◌/◌, ◌%◌, ◌<◌, ◌≤◌, true, false, List, [], ◌∷◌, ◌++◌, length, get_or, take, drop, is_some, IfSome, Some, None, IsUtf8, Option, sym, refl, ap, ◌∙◌, append_assoc, append-nil, arith, rules}
 use Rattle.std.proofs.lemmas.List.{drop_more, drop_all, take_more}
-use Rattle.std.proofs.lemmas.Str.Ascii.{encode_ascii}
 use Rattle.std.proofs.lemmas.Bool.{cond-true, cond-false}
 use Rattle.std.proofs.lemmas.Bool.Decides.{nat_tests}
 use Rattle.std.specs.Int.{is_in_range as within}
@@ -114,10 +112,6 @@ bytes-end text done w i (Some h) end none = absurd (search rules)
 -- the same under other names
 pub named : (text : List ℕ) {d e : List ℕ} {o p : Option ℕ} {v w : ℕ} (i : ℕ) → d ≡ e → o ≡ p → v ≡ w → Sofar text e p w i → Sofar text d o v i
 named text i same-done same-open same_word s = rw (same-done, same-open, same_word) s
-
--- a digit that is written is one byte of the text
-pub encode-numeral : (v c : ℕ) → v < 16 → c ≡ numeral v → encode c ≡ numeral v ∷ []
-encode-numeral v c small is = let low : numeral v < 128 = grind (arith, nat_tests) in ap encode is ∙ encode_ascii (numeral v) low
 
 gap-take : (bs : List ℕ) (i : ℕ) → 0 < i → i < length bs → gap (take i bs) ≡ 32 ∷ []
 gap-take [] i some within = absurd (omega arith)

@@ -6,7 +6,7 @@ use Rattle.regionwise_packing.proofs.RegionwisePacking.write_to_end.Goals as goa
 
 pub returns : goal.returns
 returns c = record {
-  after = content-written (content_numbers c.args.self.now) _ _ _ c.write-content.ensures.after c.close.ensures.after;
+  after = content-written (content_numbers c.args.self.now) _ _ _ c.write_content.ensures.after c.close.ensures.after;
   lent = search rules;
   holds = packing-holds c.args.self.now;
 }

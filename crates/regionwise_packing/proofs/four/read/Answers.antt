@@ -6,5 +6,5 @@ pub returns : goal.returns
 returns c = record {
   reads = search rules;
   fits = search rules;
-  goes = four-place c.args.width _ _ _ _ _ _ _ _ _ c.requires c.in-ok-first.ensures.reads.0 c.in-ok-second.ensures.reads.0 c.in-ok-third.ensures.reads.0 c.in-ok-fourth.ensures.reads.0;
+  goes = four-place c.args.width _ _ _ _ _ _ _ _ _ c.requires c.in_ok-first.ensures.reads.0 c.in_ok-second.ensures.reads.0 c.in_ok-third.ensures.reads.0 c.in_ok-fourth.ensures.reads.0;
 }

@@ -4,4 +4,4 @@ use Rattle.regionwise_packing.proofs.Loops.{Read}
 use Rattle.regionwise_packing.proofs.methods.read_regions.Given as goal
 
 abbrev pub invariant-loop-i : goal.invariant-loop-i
-invariant-loop-i l = Read l.picture l.count l.-i (left l.initial.reader) (items l.regions) (left l.reader)
+invariant-loop-i l = Read l.picture l.count l._i (left l.initial.reader) (items l.regions) (left l.reader)

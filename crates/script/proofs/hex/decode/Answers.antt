@@ -1,4 +1,4 @@
--- Each turn reads one byte; `c.as-bytes-c-items.ensures` ties the bytes to the text.
+-- Each turn reads one byte; `c.as_bytes-c-items.ensures` ties the bytes to the text.
 use Rattle.std.proofs.Common.{◌+◌, ◌<◌, length, None, vec_items, IsUtf8, sym, refl, ap, ◌∙◌, subst, arith}
 use Rattle.std.proofs.lemmas.Str.{IsCharBoundary-start}
 use Rattle.script.specs.Hex.{reading}
@@ -10,53 +10,53 @@ loop-i-init c =
     let text = c.args.text.now in (
       ap (λ l. reading l None text text) c.new-bytes.ensures.items,
       tt,
-      IsCharBoundary-start text (subst IsUtf8 c.as-bytes-c-items.ensures.value c.as-bytes-c-items.ensures.utf8),
+      IsCharBoundary-start text (subst IsUtf8 c.as_bytes-c-items.ensures.value c.as_bytes-c-items.ensures.utf8),
     )
 
-pub returns-then-is-some : goal.returns-then-is-some
-returns-then-is-some c =
-    let white = c.if-is-ascii-whitespace.ensures.value in
-    let same = c.as-bytes-c-items.ensures.value in
-    let long = c.as-bytes-c-items.ensures.len in
-    (sym c.loop-i.invariant.0 ∙ odd-at c.args.text.now c.loop-i.i (omega arith) _ _ c.loop-i.high (cc) (sym c.if-is-some.ensures), c.loop-i.invariant.2)
+pub returns-then-is_some : goal.returns-then-is_some
+returns-then-is_some c =
+    let white = c.if-is_ascii_whitespace.ensures.value in
+    let same = c.as_bytes-c-items.ensures.value in
+    let long = c.as_bytes-c-items.ensures.len in
+    (sym c.loop-i.invariant.0 ∙ odd-at c.args.text.now c.loop-i.i (omega arith) _ _ c.loop-i.high (cc) (sym c.if-is_some.ensures), c.loop-i.invariant.2)
 
-pub returns-in-default : goal.returns-in-default
-returns-in-default c =
-    let dark = c.if-is-ascii-whitespace.ensures.value in
-    let same = c.as-bytes-c-items.ensures.value in
-    let long = c.as-bytes-c-items.ensures.len in
-    let none = c.in-default.ensures in
+pub returns-in_default : goal.returns-in_default
+returns-in_default c =
+    let dark = c.if-is_ascii_whitespace.ensures.value in
+    let same = c.as_bytes-c-items.ensures.value in
+    let long = c.as_bytes-c-items.ensures.len in
+    let none = c.in_default.ensures in
     (sym c.loop-i.invariant.0 ∙ not-hex-at c.args.text.now c.loop-i.i (omega arith) _ _ c.loop-i.high (cc) (cc), c.loop-i.invariant.2)
 
 pub loop-i-preserved : goal.loop-i-preserved
 loop-i-preserved c =
-    let same = c.as-bytes-c-items.ensures.value in
-    let long = c.as-bytes-c-items.ensures.len in
+    let same = c.as_bytes-c-items.ensures.value in
+    let long = c.as_bytes-c-items.ensures.len in
     let lt : c.loop-i.i < length c.args.text.now = omega arith in
     let turn = c.loop-i.invariant in
-    elim c.if-is-ascii-whitespace.branch [
-      | goal.then-is-ascii-whitespace+else-is-some w ↦
-          let white = w.if-is-ascii-whitespace.ensures.value in
+    elim c.if-is_ascii_whitespace.branch [
+      | goal.then-is_ascii_whitespace+else-is_some w ↦
+          let white = w.if-is_ascii_whitespace.ensures.value in
           named c.args.text.now (c.loop-i.i + 1) (ap vec_items w.bytes-is) w.high-is w.word-is
-          (blank_turn c.args.text.now c.loop-i.i lt _ _ c.loop-i.high (subst IsUtf8 same c.as-bytes-c-items.ensures.utf8) turn (cc) (sym w.if-is-some.ensures))
-      | goal.else-is-ascii-whitespace+in-Some+in-None w ↦
-          let dark = w.if-is-ascii-whitespace.ensures.value in
+          (blank_turn c.args.text.now c.loop-i.i lt _ _ c.loop-i.high (subst IsUtf8 same c.as_bytes-c-items.ensures.utf8) turn (cc) (sym w.if-is_some.ensures))
+      | goal.else-is_ascii_whitespace+in-Some+in-None w ↦
+          let dark = w.if-is_ascii_whitespace.ensures.value in
           let some = w.in-Some.ensures in
           named c.args.text.now (c.loop-i.i + 1) (ap vec_items w.bytes-is) w.high-is w.word-is
           (first-turn c.args.text.now c.loop-i.i lt _ _ _ (named c.args.text.now c.loop-i.i refl (sym w.in-None.is) refl turn) (cc) (cc))
-      | goal.else-is-ascii-whitespace+in-Some+in-Some-high+in-ok-push w ↦
-          let dark = w.if-is-ascii-whitespace.ensures.value in
+      | goal.else-is_ascii_whitespace+in-Some+in-Some-high+in_ok-push-in-Some-high w ↦
+          let dark = w.if-is_ascii_whitespace.ensures.value in
           let some = w.in-Some.ensures in
-          named c.args.text.now (c.loop-i.i + 1) (ap vec_items w.bytes-is ∙ w.in-ok-push.ensures.items) w.high-is w.word-is
+          named c.args.text.now (c.loop-i.i + 1) (ap vec_items w.bytes-is ∙ w.in_ok-push-in-Some-high.ensures.items) w.high-is w.word-is
           (second-turn c.args.text.now c.loop-i.i lt _ _ _ _ (named c.args.text.now c.loop-i.i refl (sym w.in-Some-high.is) refl turn) (cc) (cc))
     ]
 
-pub returns-then-is-some-2 : goal.returns-then-is-some-2
-returns-then-is-some-2 c =
-    let long = c.as-bytes-c-items.ensures.len in
-    (sym c.loop-i.invariant.0 ∙ odd-end c.args.text.now _ _ c.loop-i.i c.loop-i.high (omega arith) (sym c.if-is-some-2.ensures), c.loop-i.invariant.2)
+pub returns-then-is_some-2 : goal.returns-then-is_some-2
+returns-then-is_some-2 c =
+    let long = c.as_bytes-c-items.ensures.len in
+    (sym c.loop-i.invariant.0 ∙ odd-end c.args.text.now _ _ c.loop-i.i c.loop-i.high (omega arith) (sym c.if-is_some-2.ensures), c.loop-i.invariant.2)
 
 pub returns : goal.returns
 returns c =
-    let long = c.as-bytes-c-items.ensures.len in
-    sym c.loop-i.invariant.0 ∙ bytes-end c.args.text.now _ _ c.loop-i.i c.loop-i.high (omega arith) (sym c.if-is-some-2.ensures)
+    let long = c.as_bytes-c-items.ensures.len in
+    sym c.loop-i.invariant.0 ∙ bytes-end c.args.text.now _ _ c.loop-i.i c.loop-i.high (omega arith) (sym c.if-is_some-2.ensures)

@@ -6,6 +6,6 @@ use Rattle.script.proofs.line.buffer.Goals as goal
 
 pub returns-in-Some : goal.returns-in-Some
 returns-in-Some c =
-    told c.end-of.result
-    (numbered_is c.args.text.now _ _ c.first-word.ensures.first c.first-word.ensures.second Buffer buffer c.in-Some.n c.in-Some.ensures)
-    (c.end-of.ensures (buffer c.in-Some.n) refl)
+    told c.end_of.result
+    (numbered_is c.args.text.now _ _ c.first_word.ensures.first c.first_word.ensures.second Buffer buffer c.in-Some.n c.in-Some.ensures)
+    (c.end_of.ensures (buffer c.in-Some.n) refl)

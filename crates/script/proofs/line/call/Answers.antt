@@ -6,14 +6,14 @@ use Rattle.script.proofs.line.call.Goals as goal
 pub returns-in-Clear : goal.returns-in-Clear
 returns-in-Clear c =
     let is = sym c.in-Some.ensures ∙ ap Some c.in-Clear.is in
-    told c.end-of.result (ap (λ o. call_of o c.args.word.now c.args.rest.now) is) (c.end-of.ensures clear refl)
+    told c.end_of.result (ap (λ o. call_of o c.args.word.now c.args.rest.now) is) (c.end_of.ensures clear refl)
 
 pub returns-in-Show : goal.returns-in-Show
 returns-in-Show c =
     let is = sym c.in-Some.ensures ∙ ap Some c.in-Show.is in
-    told c.end-of-in-Show.result (ap (λ o. call_of o c.args.word.now c.args.rest.now) is) (c.end-of-in-Show.ensures show refl)
+    told c.end_of-in-Show.result (ap (λ o. call_of o c.args.word.now c.args.rest.now) is) (c.end_of-in-Show.ensures show refl)
 
 pub returns-in-CatchUp : goal.returns-in-CatchUp
 returns-in-CatchUp c =
     let is = sym c.in-Some.ensures ∙ ap Some c.in-CatchUp.is in
-    told c.end-of-in-CatchUp.result (ap (λ o. call_of o c.args.word.now c.args.rest.now) is) (c.end-of-in-CatchUp.ensures catch_up refl)
+    told c.end_of-in-CatchUp.result (ap (λ o. call_of o c.args.word.now c.args.rest.now) is) (c.end_of-in-CatchUp.ensures catch_up refl)

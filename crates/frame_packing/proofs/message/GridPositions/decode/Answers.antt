@@ -22,4 +22,4 @@ returns-in-err-frame1-y c = search rules
 pub returns : goal.returns
 unfolding grid
 returns c = walk-reads 4 _ _ _
-    (go c.in-ok-frame0-x.ensures.reads.0 (go c.in-ok-frame0-y.ensures.reads.0 (go c.in-ok-frame1-x.ensures.reads.0 (go c.in-ok-frame1-y.ensures.reads.0 stop))))
+    (go c.in_ok-frame0_x.ensures.reads.0 (go c.in_ok-frame0_y.ensures.reads.0 (go c.in_ok-frame1_x.ensures.reads.0 (go c.in_ok-frame1_y.ensures.reads.0 stop))))

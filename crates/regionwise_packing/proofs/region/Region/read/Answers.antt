@@ -3,47 +3,47 @@ use Rattle.std.proofs.lemmas.Result.{err_from_is_err_and}
 use Rattle.regionwise_packing.proofs.Reading.{region-none, region-blank, region-turn, region-guard, region-wide, region-narrow, region-out, region-past, region-whole}
 use Rattle.regionwise_packing.proofs.region.Region.read.Goals as goal
 
-pub returns-in-err-bits : goal.returns-in-err-bits
-returns-in-err-bits c =
-    let p = err_from_is_err_and c.from-residual.result c.from-residual.ensures.1 in
-    rw (p.1, p.2) (record { reads = region-none c.args.picture _ _ c.in-err-bits.ensures.reads.0; inside = tt })
+pub returns-in_err-bits : goal.returns-in_err-bits
+returns-in_err-bits c =
+    let p = err_from_is_err_and c.from_residual.result c.from_residual.ensures.1 in
+    rw (p.1, p.2) (record { reads = region-none c.args.picture _ _ c.in_err-bits.ensures.reads.0; inside = tt })
 
-pub returns-in-err-transform : goal.returns-in-err-transform
-returns-in-err-transform c =
+pub returns-in_err-transform : goal.returns-in_err-transform
+returns-in_err-transform c =
     let p = err_from_is_err_and c.from-residual-in-err-transform.result c.from-residual-in-err-transform.ensures.1 in
-    rw (p.1, p.2) (record { reads = region-blank c.args.picture _ _ _ c.in-ok-bits.ensures.reads.0 _ c.in-err-transform.ensures.reads.0; inside = tt })
+    rw (p.1, p.2) (record { reads = region-blank c.args.picture _ _ _ c.in_ok-bits.ensures.reads.0 _ c.in-err-transform.ensures.reads.0; inside = tt })
 
-pub returns-in-err-guarded : goal.returns-in-err-guarded
-returns-in-err-guarded c =
+pub returns-in_err-guarded : goal.returns-in_err-guarded
+returns-in_err-guarded c =
     let p = err_from_is_err_and c.from-residual-in-err-guarded.result c.from-residual-in-err-guarded.ensures.1 in
-    rw (p.1, p.2) (record { reads = region-turn c.args.picture _ _ _ c.in-ok-bits.ensures.reads.0 _ _ c.in-ok-transform.ensures.reads.0 _ c.in-err-guarded.ensures.0; inside = tt })
+    rw (p.1, p.2) (record { reads = region-turn c.args.picture _ _ _ c.in_ok-bits.ensures.reads.0 _ _ c.in_ok-transform.ensures.reads.0 _ c.in-err-guarded.ensures.0; inside = tt })
 
-pub returns-in-err-projected : goal.returns-in-err-projected
-returns-in-err-projected c =
+pub returns-in_err-projected : goal.returns-in_err-projected
+returns-in_err-projected c =
     let p = err_from_is_err_and c.from-residual-in-err-projected.result c.from-residual-in-err-projected.ensures.1 in
-    rw (p.1, p.2) (record { reads = region-guard c.args.picture _ _ _ c.in-ok-bits.ensures.reads.0 _ _ c.in-ok-transform.ensures.reads.0 _ _ c.in-ok-guarded.ensures.0 _ c.in-err-projected.ensures.reads; inside = tt })
+    rw (p.1, p.2) (record { reads = region-guard c.args.picture _ _ _ c.in_ok-bits.ensures.reads.0 _ _ c.in_ok-transform.ensures.reads.0 _ _ c.in_ok-guarded.ensures.0 _ c.in-err-projected.ensures.reads; inside = tt })
 
-pub returns-in-err-packed : goal.returns-in-err-packed
-returns-in-err-packed c =
+pub returns-in_err-packed : goal.returns-in_err-packed
+returns-in_err-packed c =
     let p = err_from_is_err_and c.from-residual-in-err-packed.result c.from-residual-in-err-packed.ensures.1 in
-    rw (p.1, p.2) (record { reads = region-wide c.args.picture _ _ _ c.in-ok-bits.ensures.reads.0 _ _ c.in-ok-transform.ensures.reads.0 _ _ c.in-ok-guarded.ensures.0 _ (record { width = c.in-ok-projected.projected.0; height = c.in-ok-projected.projected.1; top = c.in-ok-projected.projected.2; left = c.in-ok-projected.projected.3 }) c.in-ok-projected.ensures.reads _ c.in-err-packed.ensures.reads; inside = tt })
+    rw (p.1, p.2) (record { reads = region-wide c.args.picture _ _ _ c.in_ok-bits.ensures.reads.0 _ _ c.in_ok-transform.ensures.reads.0 _ _ c.in_ok-guarded.ensures.0 _ (record { width = c.in_ok-projected.projected.0; height = c.in_ok-projected.projected.1; top = c.in_ok-projected.projected.2; left = c.in_ok-projected.projected.3 }) c.in_ok-projected.ensures.reads _ c.in-err-packed.ensures.reads; inside = tt })
 
-pub returns-in-err-guard : goal.returns-in-err-guard
-returns-in-err-guard c =
+pub returns-in_err-guard : goal.returns-in_err-guard
+returns-in_err-guard c =
     let p = err_from_is_err_and c.from-residual-in-err-guard.result c.from-residual-in-err-guard.ensures.1 in
-    rw (p.1, p.2) (record { reads = region-narrow c.args.picture _ _ _ c.in-ok-bits.ensures.reads.0 _ _ c.in-ok-transform.ensures.reads.0 _ _ c.in-ok-guarded.ensures.0 _ (record { width = c.in-ok-projected.projected.0; height = c.in-ok-projected.projected.1; top = c.in-ok-projected.projected.2; left = c.in-ok-projected.projected.3 }) c.in-ok-projected.ensures.reads _ (record { width = c.in-ok-packed.packed.0; height = c.in-ok-packed.packed.1; top = c.in-ok-packed.packed.2; left = c.in-ok-packed.packed.3 }) c.in-ok-packed.ensures.reads _ c.in-err-guard.ensures.reads; inside = tt })
+    rw (p.1, p.2) (record { reads = region-narrow c.args.picture _ _ _ c.in_ok-bits.ensures.reads.0 _ _ c.in_ok-transform.ensures.reads.0 _ _ c.in_ok-guarded.ensures.0 _ (record { width = c.in_ok-projected.projected.0; height = c.in_ok-projected.projected.1; top = c.in_ok-projected.projected.2; left = c.in_ok-projected.projected.3 }) c.in_ok-projected.ensures.reads _ (record { width = c.in_ok-packed.packed.0; height = c.in_ok-packed.packed.1; top = c.in_ok-packed.packed.2; left = c.in_ok-packed.packed.3 }) c.in_ok-packed.ensures.reads _ c.in-err-guard.ensures.reads; inside = tt })
 
-pub returns-in-err-region : goal.returns-in-err-region
-returns-in-err-region c =
+pub returns-in_err-region : goal.returns-in_err-region
+returns-in_err-region c =
     let p = err_from_is_err_and c.from-residual-in-err-region.result c.from-residual-in-err-region.ensures.1 in
-    rw (p.1, p.2) (record { reads = region-out c.args.picture _ _ _ c.in-ok-bits.ensures.reads.0 _ _ c.in-ok-transform.ensures.reads.0 _ _ c.in-ok-guarded.ensures.0 _ (record { width = c.in-ok-projected.projected.0; height = c.in-ok-projected.projected.1; top = c.in-ok-projected.projected.2; left = c.in-ok-projected.projected.3 }) c.in-ok-projected.ensures.reads _ (record { width = c.in-ok-packed.packed.0; height = c.in-ok-packed.packed.1; top = c.in-ok-packed.packed.2; left = c.in-ok-packed.packed.3 }) c.in-ok-packed.ensures.reads _ _ c.in-ok-guard.ensures.reads c.in-ok-projected.ensures.goes c.in-ok-packed.ensures.goes c.in-ok-guard.ensures.goes c.place-start.result _ c.place-start.ensures (omega (arith, c.in-ok-transform.ensures.fits)) c.in-err-region.ensures.0 c.in-err-region.ensures.1; inside = tt })
+    rw (p.1, p.2) (record { reads = region-out c.args.picture _ _ _ c.in_ok-bits.ensures.reads.0 _ _ c.in_ok-transform.ensures.reads.0 _ _ c.in_ok-guarded.ensures.0 _ (record { width = c.in_ok-projected.projected.0; height = c.in_ok-projected.projected.1; top = c.in_ok-projected.projected.2; left = c.in_ok-projected.projected.3 }) c.in_ok-projected.ensures.reads _ (record { width = c.in_ok-packed.packed.0; height = c.in_ok-packed.packed.1; top = c.in_ok-packed.packed.2; left = c.in_ok-packed.packed.3 }) c.in_ok-packed.ensures.reads _ _ c.in_ok-guard.ensures.reads c.in_ok-projected.ensures.goes c.in_ok-packed.ensures.goes c.in_ok-guard.ensures.goes c.place-start.result _ c.place-start.ensures (omega (arith, c.in_ok-transform.ensures.fits)) c.in-err-region.ensures.0 c.in-err-region.ensures.1; inside = tt })
 
-pub returns-then-not-is-inside : goal.returns-then-not-is-inside
-returns-then-not-is-inside c =
-    let outside = sym c.is-inside.ensures ∙ c.if-not-is-inside.true in
-    record { reads = region-past c.args.picture _ _ _ c.in-ok-bits.ensures.reads.0 _ _ c.in-ok-transform.ensures.reads.0 _ _ c.in-ok-guarded.ensures.0 _ (record { width = c.in-ok-projected.projected.0; height = c.in-ok-projected.projected.1; top = c.in-ok-projected.projected.2; left = c.in-ok-projected.projected.3 }) c.in-ok-projected.ensures.reads _ (record { width = c.in-ok-packed.packed.0; height = c.in-ok-packed.packed.1; top = c.in-ok-packed.packed.2; left = c.in-ok-packed.packed.3 }) c.in-ok-packed.ensures.reads _ _ c.in-ok-guard.ensures.reads c.in-ok-projected.ensures.goes c.in-ok-packed.ensures.goes c.in-ok-guard.ensures.goes c.in-ok-region.region c.in-ok-region.ensures c.place-start.result c.place-start.ensures outside; inside = tt }
+pub returns-then-not-is_inside : goal.returns-then-not-is_inside
+returns-then-not-is_inside c =
+    let outside = sym c.is_inside.ensures ∙ c.if-not-is_inside.true in
+    record { reads = region-past c.args.picture _ _ _ c.in_ok-bits.ensures.reads.0 _ _ c.in_ok-transform.ensures.reads.0 _ _ c.in_ok-guarded.ensures.0 _ (record { width = c.in_ok-projected.projected.0; height = c.in_ok-projected.projected.1; top = c.in_ok-projected.projected.2; left = c.in_ok-projected.projected.3 }) c.in_ok-projected.ensures.reads _ (record { width = c.in_ok-packed.packed.0; height = c.in_ok-packed.packed.1; top = c.in_ok-packed.packed.2; left = c.in_ok-packed.packed.3 }) c.in_ok-packed.ensures.reads _ _ c.in_ok-guard.ensures.reads c.in_ok-projected.ensures.goes c.in_ok-packed.ensures.goes c.in_ok-guard.ensures.goes c.in_ok-region.region c.in_ok-region.ensures c.place-start.result c.place-start.ensures outside; inside = tt }
 
 pub returns : goal.returns
 returns c =
-    let within = sym c.is-inside.ensures ∙ c.if-not-is-inside.false in
-    record { reads = region-whole c.args.picture _ _ _ c.in-ok-bits.ensures.reads.0 _ _ c.in-ok-transform.ensures.reads.0 _ _ c.in-ok-guarded.ensures.0 _ (record { width = c.in-ok-projected.projected.0; height = c.in-ok-projected.projected.1; top = c.in-ok-projected.projected.2; left = c.in-ok-projected.projected.3 }) c.in-ok-projected.ensures.reads _ (record { width = c.in-ok-packed.packed.0; height = c.in-ok-packed.packed.1; top = c.in-ok-packed.packed.2; left = c.in-ok-packed.packed.3 }) c.in-ok-packed.ensures.reads _ _ c.in-ok-guard.ensures.reads c.in-ok-projected.ensures.goes c.in-ok-packed.ensures.goes c.in-ok-guard.ensures.goes c.in-ok-region.region c.in-ok-region.ensures c.in-ok-guard.ensures.some within; inside = within }
+    let within = sym c.is_inside.ensures ∙ c.if-not-is_inside.false in
+    record { reads = region-whole c.args.picture _ _ _ c.in_ok-bits.ensures.reads.0 _ _ c.in_ok-transform.ensures.reads.0 _ _ c.in_ok-guarded.ensures.0 _ (record { width = c.in_ok-projected.projected.0; height = c.in_ok-projected.projected.1; top = c.in_ok-projected.projected.2; left = c.in_ok-projected.projected.3 }) c.in_ok-projected.ensures.reads _ (record { width = c.in_ok-packed.packed.0; height = c.in_ok-packed.packed.1; top = c.in_ok-packed.packed.2; left = c.in_ok-packed.packed.3 }) c.in_ok-packed.ensures.reads _ _ c.in_ok-guard.ensures.reads c.in_ok-projected.ensures.goes c.in_ok-packed.ensures.goes c.in_ok-guard.ensures.goes c.in_ok-region.region c.in_ok-region.ensures c.in_ok-guard.ensures.some within; inside = within }
