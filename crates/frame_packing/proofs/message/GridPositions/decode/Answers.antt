@@ -3,21 +3,21 @@ use Rattle.frame_packing.specs.FramePacking.{grid}
 use Rattle.frame_packing.specs.Walks.{stop, go, walk-reads}
 use Rattle.frame_packing.proofs.message.GridPositions.decode.Goals as goal
 
-pub returns-in-err-frame0-x : goal.returns-in-err-frame0-x
+pub returns-in_err-frame0_x : goal.returns-in_err-frame0_x
 unfolding grid
-returns-in-err-frame0-x c = search rules
+returns-in_err-frame0_x c = search rules
 
-pub returns-in-err-frame0-y : goal.returns-in-err-frame0-y
+pub returns-in_err-frame0_y : goal.returns-in_err-frame0_y
 unfolding grid
-returns-in-err-frame0-y c = search rules
+returns-in_err-frame0_y c = search rules
 
-pub returns-in-err-frame1-x : goal.returns-in-err-frame1-x
+pub returns-in_err-frame1_x : goal.returns-in_err-frame1_x
 unfolding grid
-returns-in-err-frame1-x c = search rules
+returns-in_err-frame1_x c = search rules
 
-pub returns-in-err-frame1-y : goal.returns-in-err-frame1-y
+pub returns-in_err-frame1_y : goal.returns-in_err-frame1_y
 unfolding grid
-returns-in-err-frame1-y c = search rules
+returns-in_err-frame1_y c = search rules
 
 pub returns : goal.returns
 unfolding grid

@@ -3,28 +3,28 @@ use Rattle.fields.specs.Reading.{left}
 use Rattle.regionwise_packing.proofs.Bands.{band-none, band-widths, band-flag, band-types, band-whole, band-place}
 use Rattle.regionwise_packing.proofs.guard_band.GuardBand.read.Goals as goal
 
-pub returns-in-err-widths : goal.returns-in-err-widths
-returns-in-err-widths c =
-    let p = err_from_is_err_and c.from-residual.result c.from-residual.ensures.1 in
-    rw (p.1, p.2) (record { reads = band-none _ _ c.in-err-widths.ensures.reads; goes = tt })
+pub returns-in_err-widths : goal.returns-in_err-widths
+returns-in_err-widths c =
+    let p = err_from_is_err_and c.from_residual.result c.from_residual.ensures.1 in
+    rw (p.1, p.2) (record { reads = band-none _ _ c.in_err-widths.ensures.reads; goes = tt })
 
-pub returns-in-err-not-used : goal.returns-in-err-not-used
-returns-in-err-not-used c =
-    let p = err_from_is_err_and c.from-residual-in-err-not-used.result c.from-residual-in-err-not-used.ensures.1 in
-    rw (p.1, p.2) (record { reads = band-widths _ _ _ _ _ _ c.in_ok-widths.ensures.reads _ c.in-err-not-used.ensures.0; goes = tt })
+pub returns-in_err-not_used : goal.returns-in_err-not_used
+returns-in_err-not_used c =
+    let p = err_from_is_err_and c.from_residual-in_err-not_used.result c.from_residual-in_err-not_used.ensures.1 in
+    rw (p.1, p.2) (record { reads = band-widths _ _ _ _ _ _ c.in_ok-widths.ensures.reads _ c.in_err-not_used.ensures.0; goes = tt })
 
-pub returns-in-err-types : goal.returns-in-err-types
-returns-in-err-types c =
-    let p = err_from_is_err_and c.from-residual-in-err-types.result c.from-residual-in-err-types.ensures.1 in
+pub returns-in_err-types : goal.returns-in_err-types
+returns-in_err-types c =
+    let p = err_from_is_err_and c.from_residual-in_err-types.result c.from_residual-in_err-types.ensures.1 in
     rw (p.1, p.2)
-    (record { reads = band-flag _ _ _ _ _ _ c.in_ok-widths.ensures.reads _ _ c.in_ok-not_used.ensures.0 _ c.in-err-types.ensures.reads; goes = tt })
+    (record { reads = band-flag _ _ _ _ _ _ c.in_ok-widths.ensures.reads _ _ c.in_ok-not_used.ensures.0 _ c.in_err-types.ensures.reads; goes = tt })
 
-pub returns-in-err-bits : goal.returns-in-err-bits
-returns-in-err-bits c =
-    let p = err_from_is_err_and c.from-residual-in-err-bits.result c.from-residual-in-err-bits.ensures.1 in
+pub returns-in_err-bits : goal.returns-in_err-bits
+returns-in_err-bits c =
+    let p = err_from_is_err_and c.from_residual-in_err-bits.result c.from_residual-in_err-bits.ensures.1 in
     rw (p.1, p.2)
     (record {
-      reads = band-types _ _ _ _ _ _ c.in_ok-widths.ensures.reads _ _ c.in_ok-not_used.ensures.0 _ _ _ _ _ c.in_ok-types.ensures.reads _ c.in-err-bits.ensures.reads.0;
+      reads = band-types _ _ _ _ _ _ c.in_ok-widths.ensures.reads _ _ c.in_ok-not_used.ensures.0 _ _ _ _ _ c.in_ok-types.ensures.reads _ c.in_err-bits.ensures.reads.0;
       goes = tt;
     })
 

@@ -10,33 +10,33 @@ returns-in_err-bits c =
 
 pub returns-in_err-transform : goal.returns-in_err-transform
 returns-in_err-transform c =
-    let p = err_from_is_err_and c.from-residual-in-err-transform.result c.from-residual-in-err-transform.ensures.1 in
-    rw (p.1, p.2) (record { reads = region-blank c.args.picture _ _ _ c.in_ok-bits.ensures.reads.0 _ c.in-err-transform.ensures.reads.0; inside = tt })
+    let p = err_from_is_err_and c.from_residual-in_err-transform.result c.from_residual-in_err-transform.ensures.1 in
+    rw (p.1, p.2) (record { reads = region-blank c.args.picture _ _ _ c.in_ok-bits.ensures.reads.0 _ c.in_err-transform.ensures.reads.0; inside = tt })
 
 pub returns-in_err-guarded : goal.returns-in_err-guarded
 returns-in_err-guarded c =
-    let p = err_from_is_err_and c.from-residual-in-err-guarded.result c.from-residual-in-err-guarded.ensures.1 in
-    rw (p.1, p.2) (record { reads = region-turn c.args.picture _ _ _ c.in_ok-bits.ensures.reads.0 _ _ c.in_ok-transform.ensures.reads.0 _ c.in-err-guarded.ensures.0; inside = tt })
+    let p = err_from_is_err_and c.from_residual-in_err-guarded.result c.from_residual-in_err-guarded.ensures.1 in
+    rw (p.1, p.2) (record { reads = region-turn c.args.picture _ _ _ c.in_ok-bits.ensures.reads.0 _ _ c.in_ok-transform.ensures.reads.0 _ c.in_err-guarded.ensures.0; inside = tt })
 
 pub returns-in_err-projected : goal.returns-in_err-projected
 returns-in_err-projected c =
-    let p = err_from_is_err_and c.from-residual-in-err-projected.result c.from-residual-in-err-projected.ensures.1 in
-    rw (p.1, p.2) (record { reads = region-guard c.args.picture _ _ _ c.in_ok-bits.ensures.reads.0 _ _ c.in_ok-transform.ensures.reads.0 _ _ c.in_ok-guarded.ensures.0 _ c.in-err-projected.ensures.reads; inside = tt })
+    let p = err_from_is_err_and c.from_residual-in_err-projected.result c.from_residual-in_err-projected.ensures.1 in
+    rw (p.1, p.2) (record { reads = region-guard c.args.picture _ _ _ c.in_ok-bits.ensures.reads.0 _ _ c.in_ok-transform.ensures.reads.0 _ _ c.in_ok-guarded.ensures.0 _ c.in_err-projected.ensures.reads; inside = tt })
 
 pub returns-in_err-packed : goal.returns-in_err-packed
 returns-in_err-packed c =
-    let p = err_from_is_err_and c.from-residual-in-err-packed.result c.from-residual-in-err-packed.ensures.1 in
-    rw (p.1, p.2) (record { reads = region-wide c.args.picture _ _ _ c.in_ok-bits.ensures.reads.0 _ _ c.in_ok-transform.ensures.reads.0 _ _ c.in_ok-guarded.ensures.0 _ (record { width = c.in_ok-projected.projected.0; height = c.in_ok-projected.projected.1; top = c.in_ok-projected.projected.2; left = c.in_ok-projected.projected.3 }) c.in_ok-projected.ensures.reads _ c.in-err-packed.ensures.reads; inside = tt })
+    let p = err_from_is_err_and c.from_residual-in_err-packed.result c.from_residual-in_err-packed.ensures.1 in
+    rw (p.1, p.2) (record { reads = region-wide c.args.picture _ _ _ c.in_ok-bits.ensures.reads.0 _ _ c.in_ok-transform.ensures.reads.0 _ _ c.in_ok-guarded.ensures.0 _ (record { width = c.in_ok-projected.projected.0; height = c.in_ok-projected.projected.1; top = c.in_ok-projected.projected.2; left = c.in_ok-projected.projected.3 }) c.in_ok-projected.ensures.reads _ c.in_err-packed.ensures.reads; inside = tt })
 
 pub returns-in_err-guard : goal.returns-in_err-guard
 returns-in_err-guard c =
-    let p = err_from_is_err_and c.from-residual-in-err-guard.result c.from-residual-in-err-guard.ensures.1 in
-    rw (p.1, p.2) (record { reads = region-narrow c.args.picture _ _ _ c.in_ok-bits.ensures.reads.0 _ _ c.in_ok-transform.ensures.reads.0 _ _ c.in_ok-guarded.ensures.0 _ (record { width = c.in_ok-projected.projected.0; height = c.in_ok-projected.projected.1; top = c.in_ok-projected.projected.2; left = c.in_ok-projected.projected.3 }) c.in_ok-projected.ensures.reads _ (record { width = c.in_ok-packed.packed.0; height = c.in_ok-packed.packed.1; top = c.in_ok-packed.packed.2; left = c.in_ok-packed.packed.3 }) c.in_ok-packed.ensures.reads _ c.in-err-guard.ensures.reads; inside = tt })
+    let p = err_from_is_err_and c.from_residual-in_err-guard.result c.from_residual-in_err-guard.ensures.1 in
+    rw (p.1, p.2) (record { reads = region-narrow c.args.picture _ _ _ c.in_ok-bits.ensures.reads.0 _ _ c.in_ok-transform.ensures.reads.0 _ _ c.in_ok-guarded.ensures.0 _ (record { width = c.in_ok-projected.projected.0; height = c.in_ok-projected.projected.1; top = c.in_ok-projected.projected.2; left = c.in_ok-projected.projected.3 }) c.in_ok-projected.ensures.reads _ (record { width = c.in_ok-packed.packed.0; height = c.in_ok-packed.packed.1; top = c.in_ok-packed.packed.2; left = c.in_ok-packed.packed.3 }) c.in_ok-packed.ensures.reads _ c.in_err-guard.ensures.reads; inside = tt })
 
 pub returns-in_err-region : goal.returns-in_err-region
 returns-in_err-region c =
-    let p = err_from_is_err_and c.from-residual-in-err-region.result c.from-residual-in-err-region.ensures.1 in
-    rw (p.1, p.2) (record { reads = region-out c.args.picture _ _ _ c.in_ok-bits.ensures.reads.0 _ _ c.in_ok-transform.ensures.reads.0 _ _ c.in_ok-guarded.ensures.0 _ (record { width = c.in_ok-projected.projected.0; height = c.in_ok-projected.projected.1; top = c.in_ok-projected.projected.2; left = c.in_ok-projected.projected.3 }) c.in_ok-projected.ensures.reads _ (record { width = c.in_ok-packed.packed.0; height = c.in_ok-packed.packed.1; top = c.in_ok-packed.packed.2; left = c.in_ok-packed.packed.3 }) c.in_ok-packed.ensures.reads _ _ c.in_ok-guard.ensures.reads c.in_ok-projected.ensures.goes c.in_ok-packed.ensures.goes c.in_ok-guard.ensures.goes c.place-start.result _ c.place-start.ensures (omega (arith, c.in_ok-transform.ensures.fits)) c.in-err-region.ensures.0 c.in-err-region.ensures.1; inside = tt })
+    let p = err_from_is_err_and c.from_residual-in_err-region.result c.from_residual-in_err-region.ensures.1 in
+    rw (p.1, p.2) (record { reads = region-out c.args.picture _ _ _ c.in_ok-bits.ensures.reads.0 _ _ c.in_ok-transform.ensures.reads.0 _ _ c.in_ok-guarded.ensures.0 _ (record { width = c.in_ok-projected.projected.0; height = c.in_ok-projected.projected.1; top = c.in_ok-projected.projected.2; left = c.in_ok-projected.projected.3 }) c.in_ok-projected.ensures.reads _ (record { width = c.in_ok-packed.packed.0; height = c.in_ok-packed.packed.1; top = c.in_ok-packed.packed.2; left = c.in_ok-packed.packed.3 }) c.in_ok-packed.ensures.reads _ _ c.in_ok-guard.ensures.reads c.in_ok-projected.ensures.goes c.in_ok-packed.ensures.goes c.in_ok-guard.ensures.goes c.place-start.result _ c.place-start.ensures (omega (arith, c.in_ok-transform.ensures.fits)) c.in_err-region.ensures.0 c.in_err-region.ensures.1; inside = tt })
 
 pub returns-then-not-is_inside : goal.returns-then-not-is_inside
 returns-then-not-is_inside c =

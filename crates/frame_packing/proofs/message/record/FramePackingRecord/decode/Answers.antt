@@ -6,4 +6,4 @@ use Rattle.frame_packing.proofs.message.record.FramePackingRecord.decode.Goals a
 
 pub returns : goal.returns
 returns c =
-    packing-reads _ _ _ _ _ c.in-ok-id.ensures (c.in-ok-flag.ensures.0 ∙ ap (λ (b : Bool). Ok (bit b, left c.flag.new.self)) c.if-branch.false) c.in-ok-arrangement.ensures
+    packing-reads _ _ _ _ _ c.in_ok-id.ensures (c.in_ok-flag.ensures.0 ∙ ap (λ (b : Bool). Ok (bit b, left c.flag.new.self)) c.if-branch.false) c.in_ok-arrangement.ensures
