@@ -9,5 +9,5 @@ use Rattle.frame_packings.proofs.packings.FramePackings.bring.Goals as goal
 pub returns-in-Set : goal.returns-in-Set
 returns-in-Set c =
     let m = meaning_of (items c.args.self.now.table) in
-    let e = brings m c.args.said c.in-ok-message.message c.in-Set.arrangement c.in-ok-message.was c.in-Set.is c.requires.1 in
+    let e = brings m c.args.said c.in_ok-message.message c.in-Set.arrangement c.in_ok-message.was c.in-Set.is c.requires.1 in
     record { answer = sym (ap (λ (o : Outcome (List Packed)). told o) e); after = c.put.ensures ∙ sym (ap (λ (o : Outcome (List Packed)). after m o) e) }

@@ -6,8 +6,8 @@ use Rattle.frame_packings.specs.TableLaws.{table-few}
 use Rattle.frame_packings.proofs.Rows.{kept-four, full-means}
 use Rattle.frame_packings.proofs.packings.FramePackings.is_full.Goals as goal
 
-pub overflow-add-result : goal.overflow-add-result
-overflow-add-result c = omega (arith, table-few c.added-lower.result, table-few c.added-higher.result, c.len.ensures.value, c.len-2.ensures.value)
+pub overflow_add-result : goal.overflow_add-result
+overflow_add-result c = omega (arith, table-few c.added-lower.result, table-few c.added-higher.result, c.len.ensures.value, c.len-2.ensures.value)
 
 pub returns : goal.returns
 returns c =

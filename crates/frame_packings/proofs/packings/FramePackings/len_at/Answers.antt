@@ -10,7 +10,7 @@ use Rattle.frame_packings.proofs.packings.FramePackings.len_at.Goals as goal
 
 pub returns-in-Some : goal.returns-in-Some
 returns-in-Some c =
-    ap (λ (n : ℕ). Some n) (c.payload-len.ensures.value ∙ ap (λ (m : FramePacking). length (payload layout (numbers m))) c.message.ensures)
+    ap (λ (n : ℕ). Some n) (c.payload_len.ensures.value ∙ ap (λ (m : FramePacking). length (payload layout (numbers m))) c.message.ensures)
     ∙ sym (length_some payload_of packed_of (items c.args.self.now.table) c.args.n _ (sym c.in-Some.ensures))
 
 pub returns-in-None : goal.returns-in-None

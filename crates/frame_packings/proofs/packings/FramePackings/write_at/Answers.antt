@@ -11,24 +11,24 @@ use Rattle.frame_packings.specs.Tables.{packed_of}
 use Rattle.frame_packings.proofs.Parts.{looked-none, looked-short, looked-long, looked-bytes}
 use Rattle.frame_packings.proofs.packings.FramePackings.write_at.Goals as goal
 
-pub returns-in-err-write : goal.returns-in-err-write
-returns-in-err-write c =
+pub returns-in_err-write-in-Some : goal.returns-in_err-write-in-Some
+returns-in_err-write-in-Some c =
     let b = c.args.buffer.now in
     let found = sym c.in-Some.ensures in
-    let p = err_from_is_err_and c.from-residual.result c.from-residual.ensures.1 in
+    let p = err_from_is_err_and c.from_residual.result c.from_residual.ensures.1 in
     rw (p.1, p.2)
     (record {
-      answer = looked-short payload_of packed_of _ c.args.n _ b found _ (c.in-err-write.ensures.answer ∙ ap (λ (m : FramePacking). (written (payload layout (numbers m)) b).0) c.message.ensures);
-      bytes = c.in-err-write.ensures.bytes ∙ ap (λ (m : FramePacking). (written (payload layout (numbers m)) b).1) c.message.ensures ∙ looked-bytes payload_of packed_of _ c.args.n _ b found;
+      answer = looked-short payload_of packed_of _ c.args.n _ b found _ (c.in_err-write-in-Some.ensures.answer ∙ ap (λ (m : FramePacking). (written (payload layout (numbers m)) b).0) c.message.ensures);
+      bytes = c.in_err-write-in-Some.ensures.bytes ∙ ap (λ (m : FramePacking). (written (payload layout (numbers m)) b).1) c.message.ensures ∙ looked-bytes payload_of packed_of _ c.args.n _ b found;
     })
 
-pub returns-in-ok-write : goal.returns-in-ok-write
-returns-in-ok-write c =
+pub returns-in_ok-write-in-Some : goal.returns-in_ok-write-in-Some
+returns-in_ok-write-in-Some c =
     let b = c.args.buffer.now in
     let found = sym c.in-Some.ensures in
     record {
-      answer = looked-long payload_of packed_of _ c.args.n _ b found _ (c.in-ok-write.ensures.answer ∙ ap (λ (m : FramePacking). (written (payload layout (numbers m)) b).0) c.message.ensures);
-      bytes = c.in-ok-write.ensures.bytes ∙ ap (λ (m : FramePacking). (written (payload layout (numbers m)) b).1) c.message.ensures ∙ looked-bytes payload_of packed_of _ c.args.n _ b found;
+      answer = looked-long payload_of packed_of _ c.args.n _ b found _ (c.in_ok-write-in-Some.ensures.answer ∙ ap (λ (m : FramePacking). (written (payload layout (numbers m)) b).0) c.message.ensures);
+      bytes = c.in_ok-write-in-Some.ensures.bytes ∙ ap (λ (m : FramePacking). (written (payload layout (numbers m)) b).1) c.message.ensures ∙ looked-bytes payload_of packed_of _ c.args.n _ b found;
     }
 
 pub returns-in-None : goal.returns-in-None
