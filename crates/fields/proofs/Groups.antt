@@ -1,11 +1,9 @@
 -- Groups of fields that are read one after the other: what is read so far comes before what is read behind it.
-use Rattle.std.proofs.Common.{◌≡◌, ℕ, zero, suc, ◌+◌, ◌-◌, ◌*◌, ◌<◌, ◌≤◌, Bool, true, false, eqb, leb, List, [], ◌∷◌, ◌++◌, length, Ok, Err, Result, sym, refl, ap, ◌∙◌, subst, ⊎_elim, append_assoc, arith}
-use Rattle.std.proofs.lemmas.Bool.{le-leb}
+use Rattle.std.proofs.Common.{◌≡◌, ℕ, suc, ◌+◌, ◌-◌, ◌<◌, ◌≤◌, Bool, true, false, eqb, List, [], ◌∷◌, ◌++◌, Ok, Err, Result, sym, refl, ap, ◌∙◌, append_assoc, arith}
 use Rattle.layouts.specs.declared.fault.FieldFault.{FieldFault}
-use Rattle.layouts.specs.declared.fault.FieldFault.TheVariants.{OutOfRange, PastLimit}
 use Rattle.layouts.specs.Bits.{bit}
 use Rattle.fields.specs.Groups.{before}
-use Rattle.layouts.specs.Layout.{Left, and_then, Verdict, fine, out_of_range, past_limit, judged, Code, u, fixed, next, coded, coded_ue, Layout, reserved, field, judge, times, reads}
+use Rattle.layouts.specs.Layout.{Left, and_then, Verdict, judged, Code, u, fixed, next, coded_ue, Layout, reserved, field, judge, times, reads}
 use Rattle.layouts.proofs.Numbers.{length-word}
 use Rattle.layouts.proofs.Fields.{step}
 use Rattle.layouts.proofs.Steps.{fixed-narrow}

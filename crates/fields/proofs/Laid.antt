@@ -1,5 +1,5 @@
 -- What is laid over a list: part after part, and inside a part.
-use Rattle.std.proofs.Common.{◌≡◌, ℕ, zero, suc, ◌+◌, ◌-◌, ◌*◌, ◌/◌, ◌%◌, ◌^◌, ◌<◌, ◌≤◌, Bool, List, [], ◌∷◌, ◌++◌, length, get_or, take, drop, set, sym, refl, ap, ◌∙◌, subst, append_assoc, mod-lt, mod-eq_of_lt, arith, length-append, length-drop, take-append-drop, length-take, drop-drop, take_at, drop_at, pow_pos, pow_mono}
+use Rattle.std.proofs.Common.{◌≡◌, ℕ, zero, suc, ◌+◌, ◌-◌, ◌*◌, ◌/◌, ◌%◌, ◌^◌, ◌<◌, ◌≤◌, Bool, List, [], ◌∷◌, ◌++◌, length, get_or, take, drop, set, sym, ap, ◌∙◌, subst, append_assoc, mod-lt, arith, length-append, length-drop, take-append-drop, length-take, drop-drop, take_at, drop_at, pow_pos, pow_mono}
 use lib.Bits.{bit_and, bit_or, and_mask, or_shifted}
 use lib.Seq.{drop-append-add, take-append-add, take-append-le, drop-append-le}
 use Rattle.std.proofs.lemmas.Nat.{one_shl, shl_whole, shl_below, shr_below}

@@ -1,17 +1,17 @@
 -- What a writer's methods come to: one part written where it fits, and one part after the other.
-use Rattle.std.proofs.Common.{◌≡◌, ℕ, suc, ◌+◌, ◌-◌, ◌*◌, ◌/◌, ◌%◌, ◌^◌, ◌<◌, ◌≤◌, min, Bool, true, false, cond, eqb, ltb, leb, List, [], ◌∷◌, ◌++◌, length, replicate, sym, refl, ap, ◌∙◌, add-one, arith, length-append}
+use Rattle.std.proofs.Common.{◌≡◌, ℕ, suc, ◌+◌, ◌-◌, ◌*◌, ◌/◌, ◌%◌, ◌^◌, ◌<◌, ◌≤◌, min, Bool, true, false, cond, leb, List, [], ◌++◌, length, replicate, sym, refl, ap, ◌∙◌, add-one, arith}
 use native.Mathlib.Nat.{div-eq_of_lt}
 use lib.Count.{count_leading_zeros}
 use Rattle.std.proofs.lemmas.Nat.{one_shl}
-use Rattle.std.proofs.lemmas.Bool.{le-leb, lt-leb, lt-ltb, le-ltb, eq-eqb}
+use Rattle.std.proofs.lemmas.Bool.{le-leb, lt-leb, lt-ltb, le-ltb}
 use Rattle.layouts.specs.Bits.{word, number, bits_of}
 use Rattle.layouts.specs.Layout.{ue, fixed, coded, coded_ue, closing}
 use Rattle.fields.specs.Writing.{Sheet, laid, put}
 use Rattle.layouts.proofs.Numbers.{length-word, length-bits}
 use Rattle.layouts.proofs.Words.{word_split}
-use Rattle.layouts.proofs.Closes.{closing-is, half}
+use Rattle.layouts.proofs.Closes.{closing-is}
 use Rattle.layouts.proofs.Fields.{top_of, word_of, word-zero}
-use Rattle.fields.proofs.Laid.{laid_none, laid-laid, length-laid}
+use Rattle.fields.proofs.Laid.{laid_none}
 
 pub put-fits : (bs : List Bool) (s : Sheet) → s.place + length bs ≤ min (length s.bits) 524280 → put bs s ≡ record { place = s.place + length bs; bits = laid s.place bs s.bits }
 unfolding put

@@ -1,5 +1,5 @@
 -- The parts of a frame packing: without grid positions, put together, and by their numbers.
-use Rattle.std.specs.Prelude.{◌≡◌, ℕ, ◌+◌, ◌^◌, ◌<◌, ◌≤◌, Bool, true, false, cond, not, List, ◌∷◌, ◌++◌, length, take, drop, is_some, Some, None, Ok, Err, Option, Result, ◌==◌, slice_index, refl}
+use Rattle.std.specs.Prelude.{◌≡◌, ℕ, ◌^◌, ◌<◌, ◌≤◌, Bool, true, false, cond, not, List, ◌∷◌, ◌++◌, length, take, drop, is_some, Some, None, Ok, Err, Option, Result, ◌==◌, slice_index, refl}
 use Rattle.std.proofs.Common.{sym, ap, ◌∙◌, arith, take_all}
 use Rattle.std.proofs.Math.Bool.{Bool-set}
 use mathlib.Core.HLevel.{is_prop→PathP, ×_prop}
@@ -19,7 +19,7 @@ use Rattle.frame_packing.specs.declared.message.PackingFlags.{PackingFlags}
 use Rattle.frame_packing.specs.declared.message.PackingId.{PackingId}
 use Rattle.records.specs.declared.period.Period.{Period}
 use Rattle.frame_packing.specs.FramePacking.{flags, grid, ending, content, flag_numbers, grid_numbers, period_numbers, content_numbers, arrangement_numbers, identity, layout, id_as}
-use Rattle.frame_packing.specs.PackingIds.{reserved_id, unreserved, gridless}
+use Rattle.frame_packing.specs.PackingIds.{reserved_id, gridless}
 use Rattle.fields.specs.Groups.{WritesGroup}
 use Rattle.records.specs.Record.{as_payload}
 use Rattle.frame_packing.specs.Same.{bit-same, period-same}

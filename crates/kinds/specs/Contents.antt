@@ -1,5 +1,5 @@
 -- The rules of a kind that holds one thing, from the layout of its messages.
-use Rattle.std.specs.Prelude.{◌≡◌, ℕ, Bool, true, false, cond, ◌&&◌, List, [], ◌∷◌, Some, None, Ok, Err, Option, Result, ◌==◌}
+use Rattle.std.specs.Prelude.{ℕ, Bool, true, false, cond, ◌&&◌, List, [], ◌∷◌, Some, None, Ok, Err, Option, Result, ◌==◌}
 use Rattle.layouts.specs.Layout.{Layout, cancelable, Holds}
 use Rattle.layouts.specs.Payloads.{payload}
 use Rattle.records.specs.declared.fault.PayloadFault.{PayloadFault}

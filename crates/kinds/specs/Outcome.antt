@@ -1,5 +1,5 @@
 -- What an offer comes to, and what a look at a kind's part gives.
-use Rattle.std.specs.Prelude.{ℕ, Bool, cond, List, [], length, Some, None, Ok, Err, Option, Result, nat_le, nat_lt, slice_index_or}
+use Rattle.std.specs.Prelude.{ℕ, cond, List, [], length, Some, None, Ok, Err, Option, Result, nat_le, nat_lt, slice_index_or}
 use Rattle.layouts.specs.Frames.{fronted}
 use Rattle.kinds.specs.declared.fault.Offered.{Offered}
 use Rattle.kinds.specs.declared.fault.Offered.TheVariants.{Granted, Passed}

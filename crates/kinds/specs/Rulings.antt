@@ -1,7 +1,7 @@
 -- The rules of the kinds that hold one thing have what rules must have.
-use Rattle.std.specs.Prelude.{◌≡◌, ℕ, ◌+◌, ◌/◌, ◌<◌, ◌≤◌, Bool, true, false, cond, List, [], ◌∷◌, length, Some, None, Ok, Err, Option, Result, ◌==◌, nat_le, refl}
-use Rattle.std.proofs.Common.{sym, ap, subst, ◌∙◌, ⊎_elim, arith}
-use Rattle.std.proofs.lemmas.Bool.{cases_Bool, eqb-true, eqb-false, le-leb, leb-true}
+use Rattle.std.specs.Prelude.{◌≡◌, ℕ, ◌+◌, ◌/◌, ◌≤◌, Bool, true, false, cond, List, [], ◌∷◌, length, Some, None, Ok, Err, Option, Result, ◌==◌, nat_le, refl}
+use Rattle.std.proofs.Common.{ap, subst, ◌∙◌, arith}
+use Rattle.std.proofs.lemmas.Bool.{le-leb}
 use Rattle.layouts.specs.declared.fault.FieldFault.{FieldFault}
 use Rattle.layouts.specs.Layout.{Layout, unless, cancelable, reads, Holds, from}
 use Rattle.layouts.specs.Payloads.{size, payload}
@@ -9,10 +9,10 @@ use Rattle.layouts.proofs.Extents.{Takes, takes-cancelable}
 use Rattle.layouts.proofs.Framed.{length-framed}
 use Rattle.layouts.proofs.Layouts.{lawful, length-payload}
 use Rattle.records.specs.declared.fault.PayloadFault.{PayloadFault}
-use Rattle.records.specs.declared.fault.PayloadFault.TheVariants.{TooLong, Field}
+use Rattle.records.specs.declared.fault.PayloadFault.TheVariants.{TooLong}
 use Rattle.records.specs.Record.{as_payload, reads_as}
 use Rattle.kinds.specs.declared.in_force.Stay.{Stay}
-use Rattle.kinds.specs.Single.{Rules, Ruled}
+use Rattle.kinds.specs.Single.{Ruled}
 use Rattle.kinds.specs.Contents.{uncanceled, always, canceling, constant}
 
 ok-err : {A B E : Type 0} {a : A} {e : E} → ◌≡◌ {A = Result A E} (Err e) (Ok a) → B

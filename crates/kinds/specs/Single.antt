@@ -6,7 +6,7 @@ use Rattle.kinds.specs.declared.fault.OfferFault.TheVariants.{Payload, Disagrees
 use Rattle.kinds.specs.declared.in_force.InForce.{InForce}
 use Rattle.kinds.specs.declared.in_force.Stay.{Stay}
 use Rattle.kinds.specs.declared.in_force.Stay.TheVariants.{Once, Stays}
-use Rattle.kinds.specs.Outcome.{Outcome, granted, passed, refused}
+use Rattle.kinds.specs.Outcome.{Outcome, granted, refused}
 use Rattle.kinds.specs.Model.{Model}
 
 -- What is particular to such a kind. A content goes by its numbers, field after field.

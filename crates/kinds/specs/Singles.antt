@@ -1,13 +1,12 @@
 -- A kind that holds one thing has the laws of a kind.
-use Rattle.std.specs.Prelude.{◌≡◌, ℕ, ◌≤◌, Bool, true, false, cond, List, [], ◌∷◌, length, Some, None, Ok, Err, Option, Result, refl}
+use Rattle.std.specs.Prelude.{◌≡◌, ℕ, ◌≤◌, Bool, true, false, cond, List, length, Some, None, Ok, Err, Option, Result, refl}
 use Rattle.std.proofs.Common.{sym, ap, subst, ◌∙◌, append-nil, arith}
 use Rattle.layouts.specs.Frames.{framed, frames, under}
 use Rattle.records.specs.declared.fault.PayloadFault.{PayloadFault}
 use Rattle.kinds.specs.declared.fault.OfferFault.{OfferFault}
 use Rattle.kinds.specs.declared.fault.OfferFault.TheVariants.{Disagrees}
-use Rattle.kinds.specs.declared.in_force.InForce.{InForce}
-use Rattle.kinds.specs.Outcome.{Outcome, granted, passed, refused}
-use Rattle.kinds.specs.Model.{Model, Lawful, Replay}
+use Rattle.kinds.specs.Outcome.{granted, refused}
+use Rattle.kinds.specs.Model.{Lawful, Replay}
 use Rattle.kinds.specs.Single.{Rules, Ruled, Held, thing, Sound, outlasting, outlasts, lets, says, part_of, single, held_of}
 
 never : {A : Type 0} {m : Held} {f : OfferFault} → refused f ≡ granted m → A

@@ -1,12 +1,11 @@
 -- How a payload closes, by the bits that are left in its last byte.
-use Rattle.std.proofs.Common.{◌≡◌, ℕ, zero, suc, ◌+◌, ◌-◌, ◌*◌, ◌/◌, ◌%◌, ◌^◌, ◌<◌, ◌≤◌, Bool, true, false, cond, eqb, List, [], ◌∷◌, ◌++◌, length, take, drop, replicate, Ok, Err, Result, sym, refl, ap, ◌∙◌, subst, ⊎_elim, pow-suc, mul-div_cancel, arith, length-drop, length-take, take_all}
+use Rattle.std.proofs.Common.{◌≡◌, ℕ, zero, suc, ◌-◌, ◌*◌, ◌/◌, ◌%◌, ◌^◌, ◌≤◌, Bool, true, false, List, [], ◌∷◌, length, take, drop, replicate, Ok, Err, sym, refl, ap, ◌∙◌, ⊎_elim, pow-suc, mul-div_cancel, arith, take_all}
 use lib.ListN.{length-replicate}
 use Rattle.std.proofs.lemmas.Bool.{eq-eqb, ne_eqb, cases_eq, cases_Bool}
-use Rattle.layouts.specs.declared.fault.FieldFault.{FieldFault}
-use Rattle.layouts.specs.declared.fault.FieldFault.TheVariants.{Short, OutOfRange, PastLimit, Ending}
+use Rattle.layouts.specs.declared.fault.FieldFault.TheVariants.{Ending}
 use Rattle.layouts.specs.Bits.{bit, word, number, bits_of}
-use Rattle.layouts.specs.Layout.{Left, closing, closes, same, from}
-use Rattle.layouts.proofs.Numbers.{number_lt, word_number}
+use Rattle.layouts.specs.Layout.{closing, closes, same, from}
+use Rattle.layouts.proofs.Numbers.{word_number}
 use Rattle.layouts.proofs.Steps.{length_from}
 
 pub same_refl : (l : List Bool) → same l l ≡ true

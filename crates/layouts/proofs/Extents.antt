@@ -1,10 +1,9 @@
 -- How many bits a layout takes at most, part by part.
-use Rattle.std.proofs.Common.{◌≡◌, ℕ, zero, suc, ◌+◌, ◌-◌, ◌*◌, ◌^◌, ◌<◌, ◌≤◌, Bool, true, false, cond, eqb, leb, ◌⊎◌, List, [], ◌∷◌, ◌++◌, length, sym, refl, ap, ◌∙◌, subst, inl, inr, ⊎_elim, mul-suc, arith, length-append, pow_mono}
+use Rattle.std.proofs.Common.{◌≡◌, ℕ, zero, suc, ◌+◌, ◌-◌, ◌*◌, ◌^◌, ◌<◌, ◌≤◌, Bool, true, false, cond, eqb, leb, ◌⊎◌, List, [], ◌∷◌, length, sym, refl, ap, ◌∙◌, subst, inl, inr, ⊎_elim, mul-suc, arith, length-append, pow_mono}
 use lib.Count.{count_leading_zeros}
 use lib.ListN.{length-replicate}
 use Rattle.std.proofs.lemmas.Bool.{leb-true, cases_Bool, cases_lt}
-use borrow.Author.Tests.{clash}
-use Rattle.layouts.specs.Layout.{Verdict, fine, out_of_range, past_limit, Code, u, ue, within, fixed, coded, coded_ue, at_most, counted, Layout, close, extension, reserved, field, judge, flag, unless, cancelable, times, extent, Holds}
+use Rattle.layouts.specs.Layout.{Verdict, fine, out_of_range, past_limit, u, ue, within, fixed, coded, at_most, counted, Layout, close, extension, reserved, field, judge, flag, unless, cancelable, times, extent, Holds}
 use Rattle.layouts.proofs.Numbers.{length-word}
 use Rattle.layouts.proofs.Fields.{ue-code, top_of}
 use Rattle.layouts.proofs.Steps.{fixed-narrow}

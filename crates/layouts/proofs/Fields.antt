@@ -1,18 +1,17 @@
 -- The two laws of a field: what is coded is read, and what is read is coded.
-use Rattle.std.proofs.Common.{◌≡◌, ℕ, zero, suc, ◌+◌, ◌-◌, ◌*◌, ◌/◌, ◌%◌, ◌^◌, ◌<◌, ◌≤◌, Bool, true, false, cond, eqb, ltb, leb, ◌⊎◌, List, [], ◌∷◌, ◌++◌, length, take, drop, replicate, Ok, Err, Result, sym, refl, ap, ◌∙◌, subst, inl, inr, ⊎_elim, append_assoc, mod-eq_of_lt, pow-suc, add-one, arith, length-append, length-drop, take-append-drop, length-take, length-take-le, drop-drop, take_at, drop_at, pow_pos, pow_mono}
+use Rattle.std.proofs.Common.{◌≡◌, ℕ, zero, suc, ◌+◌, ◌-◌, ◌*◌, ◌/◌, ◌%◌, ◌^◌, ◌<◌, ◌≤◌, Bool, true, false, cond, leb, ◌⊎◌, List, [], ◌∷◌, ◌++◌, length, take, drop, replicate, Ok, Err, Result, sym, refl, ap, ◌∙◌, subst, inl, inr, ⊎_elim, append_assoc, mod-eq_of_lt, pow-suc, add-one, arith, length-append, length-drop, take-append-drop, length-take-le, drop-drop, take_at, drop_at, pow_pos, pow_mono}
 use native.Mathlib.Nat.{div-eq_of_lt-le}
 use lib.Count.{count_leading_zeros, leading_top, leading_unique}
 use lib.ListN.{length-replicate}
-use lib.Pow.{high, low}
+use lib.Pow.{low}
 use Rattle.std.proofs.lemmas.Bool.{le-leb, lt-leb, leb-true, leb-false, lt-ltb, cases_Bool}
 use Rattle.layouts.specs.declared.fault.FieldFault.{FieldFault}
-use Rattle.layouts.specs.declared.fault.FieldFault.TheVariants.{Short, OutOfRange, PastLimit, Ending}
-use Rattle.layouts.specs.Bits.{bit, word, number, zeros}
+use Rattle.layouts.specs.Bits.{word, number, zeros}
 use Rattle.layouts.specs.Layout.{Left, past, and_then, Verdict, fine, out_of_range, past_limit, judged, Code, u, ue, within, next, coded, Inside, next_u, next_ue, coded_ue}
 use Rattle.layouts.proofs.Numbers.{length-word, number_lt, number_word, word_number}
 use Rattle.layouts.proofs.Closes.{number_same, number-zeros}
 use Rattle.layouts.proofs.Steps.{ok-parts}
-use Rattle.layouts.proofs.Golomb.{zeros-le, drop-zeros, number-one}
+use Rattle.layouts.proofs.Golomb.{drop-zeros, number-one}
 
 pub ue-code : (v : ℕ) → v + 1 < 2 ^ 32 → coded_ue v ≡ replicate (31 - count_leading_zeros 32 (v + 1)) false ++ word (31 - count_leading_zeros 32 (v + 1) + 1) (v + 1)
 unfolding coded_ue

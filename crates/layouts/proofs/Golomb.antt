@@ -1,12 +1,11 @@
 -- A ue field, by the zeros at the head of the 32 bits that come next.
-use Rattle.std.proofs.Common.{◌≡◌, ℕ, zero, suc, ◌+◌, ◌-◌, ◌*◌, ◌/◌, ◌%◌, ◌^◌, ◌<◌, ◌≤◌, min, Bool, true, false, cond, leb, List, [], ◌∷◌, ◌++◌, length, get_or, take, drop, Ok, Err, Result, sym, refl, ap, ◌∙◌, subst, ⊎_elim, pow-suc, add-one, arith, length-drop, length-take, length-take-le, drop-drop, pow_pos}
+use Rattle.std.proofs.Common.{◌≡◌, ℕ, zero, suc, ◌+◌, ◌-◌, ◌*◌, ◌^◌, ◌<◌, ◌≤◌, min, Bool, true, false, List, [], ◌∷◌, length, take, drop, Ok, Err, sym, refl, ap, ◌∙◌, pow-suc, add-one, arith, length-drop, length-take-le, drop-drop, pow_pos}
 use lib.Count.{count_leading_zeros, leading_unique}
-use Rattle.std.proofs.lemmas.Bool.{le-leb, lt-leb, cases_lt}
-use Rattle.layouts.specs.declared.fault.FieldFault.{FieldFault}
-use Rattle.layouts.specs.declared.fault.FieldFault.TheVariants.{Short, OutOfRange, PastLimit, Ending}
-use Rattle.layouts.specs.Bits.{bit, word, number, bits_of, zeros}
-use Rattle.layouts.specs.Layout.{Left, u, ue, next, next_u, next_ue, from}
-use Rattle.layouts.proofs.Numbers.{length-bits, number_lt}
+use Rattle.std.proofs.lemmas.Bool.{le-leb, lt-leb}
+use Rattle.layouts.specs.declared.fault.FieldFault.TheVariants.{Short, OutOfRange}
+use Rattle.layouts.specs.Bits.{number, bits_of, zeros}
+use Rattle.layouts.specs.Layout.{ue, next, next_u, next_ue, from}
+use Rattle.layouts.proofs.Numbers.{number_lt}
 use Rattle.layouts.proofs.Steps.{length_from}
 
 pub zeros-le : (l : List Bool) → zeros l ≤ length l

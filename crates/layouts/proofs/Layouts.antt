@@ -1,12 +1,12 @@
 -- The laws of layouts, from those of fields.
-use Rattle.std.proofs.Common.{◌≡◌, ℕ, zero, suc, ◌+◌, ◌-◌, ◌*◌, ◌/◌, ◌%◌, ◌^◌, ◌<◌, ◌≤◌, Bool, true, false, cond, eqb, ltb, ◌⊎◌, ◌↔◌, List, [], ◌∷◌, ◌++◌, length, take, drop, replicate, Ok, Err, Result, sym, refl, ap, ◌∙◌, subst, inl, inr, ⊎_elim, append_assoc, append-nil, mod-eq_of_lt, arith, length-append, length-drop, take-append-drop, length-take, length-take-le, take_at, drop_at, pow_pos}
+use Rattle.std.proofs.Common.{◌≡◌, ℕ, zero, suc, ◌+◌, ◌-◌, ◌*◌, ◌^◌, ◌<◌, ◌≤◌, Bool, true, false, cond, eqb, ltb, List, [], ◌∷◌, ◌++◌, length, take, drop, replicate, Ok, Result, sym, refl, ap, ◌∙◌, subst, ⊎_elim, mod-eq_of_lt, arith, length-append, length-drop, take-append-drop, length-take-le, take_at, drop_at, pow_pos}
 use lib.ListN.{length-replicate}
 use lib.Pow.{are_bytes}
 use Rattle.std.proofs.lemmas.List.{append_cancel_left}
 use Rattle.std.proofs.lemmas.Bool.{cases_Bool, and_parts, and_from, ltb-true, lt-ltb, eqb-true}
 use Rattle.layouts.specs.declared.fault.FieldFault.{FieldFault}
 use Rattle.layouts.specs.Bits.{word, number, bits_of}
-use Rattle.layouts.specs.Layout.{Left, and_then, u, next, coded, closing, same, closes, Layout, close, extension, reserved, field, judge, judged, Verdict, fine, out_of_range, past_limit, reads, writes, extent, Holds, Then, Plain, coded_ue, from}
+use Rattle.layouts.specs.Layout.{Left, and_then, u, next, coded, closing, same, closes, Layout, close, extension, reserved, field, judge, judged, fine, out_of_range, past_limit, reads, writes, extent, Holds, Then, Plain, coded_ue, from}
 use Rattle.layouts.specs.Payloads.{bytes_of, size, payload, Lawful}
 use Rattle.layouts.proofs.Numbers.{length-word, length-bits, number_lt, number_word, bits-cons}
 use Rattle.layouts.proofs.Closes.{same_refl, same-eq, closing-is}

@@ -1,11 +1,9 @@
 -- Laws of bits and numbers.
-use Rattle.std.proofs.Common.{◌≡◌, ℕ, zero, suc, ◌+◌, ◌-◌, ◌*◌, ◌/◌, ◌%◌, ◌^◌, ◌<◌, ◌≤◌, min, Bool, true, false, cond, eqb, ◌⊎◌, List, [], ◌∷◌, ◌++◌, length, get_or, take, drop, sym, refl, ap, ◌∙◌, subst, inl, inr, ⊎_elim, append_assoc, append-nil, add-zero, add_assoc, add-suc, mod-lt, mod-eq_of_lt, mul_assoc, mul_comm, add-mul, add_comm, suc-add, one-mul, pow-suc, mul-zero, zero-add, zero-mul, mul-one, mul-suc, mul-add, div-one, arith, length-append, length-drop, take-append-drop, length-take, length-take-le, take_all, take-suc, drop-drop, pow_pos, pow_mono, pow-add, shl_exact, shr-shr}
-use native.Mathlib.Nat.{pow-zero, mod-one}
-use lib.Seq.{drop-append-add, take-append-add, drop-append-le, take-append_seam, drop-append_seam, take-append-le}
-use lib.Pow.{high, low, mod-pow-add, split}
-use lib.Bits.{bit_and, bit_or, and_mask, or_shifted}
-use Rattle.std.proofs.lemmas.Bool.{eqb-true, eqb-false, eq-eqb, ne_eqb, cases_Bool}
-use Rattle.layouts.specs.Bits.{bit, word, number, bits_of, zeros}
+use Rattle.std.proofs.Common.{◌≡◌, ℕ, zero, suc, ◌+◌, ◌-◌, ◌*◌, ◌/◌, ◌%◌, ◌^◌, ◌<◌, ◌≤◌, Bool, true, false, eqb, List, [], ◌∷◌, ◌++◌, length, take, drop, sym, refl, ap, ◌∙◌, subst, ⊎_elim, append_assoc, append-nil, mod-lt, mod-eq_of_lt, mul_assoc, add-mul, pow-suc, zero-mul, arith, length-append, length-drop, take-append-drop, length-take, pow_pos, pow-add}
+use native.Mathlib.Nat.{mod-one}
+use lib.Pow.{high, low, mod-pow-add}
+use Rattle.std.proofs.lemmas.Bool.{eqb-true, eqb-false, cases_Bool}
+use Rattle.layouts.specs.Bits.{bit, word, number, bits_of}
 
 pub length-word : (w n : ℕ) → length (word w n) ≡ w
 unfolding word

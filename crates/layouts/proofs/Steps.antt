@@ -1,12 +1,12 @@
 -- The next field, by the bytes and the place that a reader holds.
-use Rattle.std.proofs.Common.{◌≡◌, ℕ, zero, suc, ◌+◌, ◌-◌, ◌*◌, ◌/◌, ◌%◌, ◌^◌, ◌<◌, ◌≤◌, min, Bool, true, false, cond, ◌&&◌, eqb, leb, List, [], ◌∷◌, ◌++◌, length, get_or, take, drop, ℤ, ◌≤ℤ◌, ◌<ℤ◌, Ok, Err, Result, sym, refl, ap, ◌∙◌, subst, ⊎_elim, arith, length-drop, length-take, length-take-le, take_all, drop-drop, pow_mono, w32, SFits, to_z, of_z}
+use Rattle.std.proofs.Common.{◌≡◌, ℕ, zero, suc, ◌+◌, ◌-◌, ◌*◌, ◌^◌, ◌<◌, ◌≤◌, min, Bool, true, false, eqb, leb, List, length, take, drop, ℤ, ◌≤ℤ◌, ◌<ℤ◌, Ok, Err, Result, sym, refl, ap, ◌∙◌, subst, ⊎_elim, arith, length-drop, length-take, length-take-le, take_all, drop-drop, pow_mono, w32, SFits, of_z}
 use lib.Signed.{le_z}
 use Rattle.std.proofs.lemmas.Int.{ints, to_z-of_z}
 use Rattle.std.proofs.lemmas.Bool.{le-leb, lt-leb, leb-true, cases_Bool, cases_lt}
 use Rattle.layouts.specs.declared.fault.FieldFault.{FieldFault}
-use Rattle.layouts.specs.declared.fault.FieldFault.TheVariants.{Short, OutOfRange, PastLimit, Ending}
-use Rattle.layouts.specs.Bits.{bit, word, number, bits_of, zeros}
-use Rattle.layouts.specs.Layout.{Left, past, and_then, Verdict, fine, out_of_range, past_limit, judged, at_most, between, Code, u, ue, within, fixed, next, next_u, next_ue, from}
+use Rattle.layouts.specs.declared.fault.FieldFault.TheVariants.{Short, OutOfRange}
+use Rattle.layouts.specs.Bits.{bit, number, bits_of}
+use Rattle.layouts.specs.Layout.{Left, past, and_then, Verdict, fine, out_of_range, judged, at_most, between, Code, u, within, fixed, next, next_u, next_ue, from}
 use Rattle.layouts.proofs.Numbers.{length-bits, number_lt}
 
 -- as many as there are, and at most k

@@ -1,5 +1,5 @@
 -- Words of several parts.
-use Rattle.std.proofs.Common.{◌≡◌, ℕ, zero, suc, ◌+◌, ◌*◌, ◌/◌, ◌%◌, ◌^◌, ◌<◌, eqb, List, [], ◌∷◌, ◌++◌, sym, refl, ap, ◌∙◌, mod-eq_of_lt, add_comm, suc-add, arith, shr-shr}
+use Rattle.std.proofs.Common.{◌≡◌, ℕ, zero, suc, ◌+◌, ◌*◌, ◌/◌, ◌%◌, ◌^◌, ◌<◌, eqb, ◌∷◌, ◌++◌, sym, ap, ◌∙◌, mod-eq_of_lt, add_comm, suc-add, arith, shr-shr}
 use native.Mathlib.Nat.{mod-mod}
 use lib.Pow.{high, low}
 use Rattle.layouts.specs.Bits.{word}

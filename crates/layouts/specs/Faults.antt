@@ -1,7 +1,7 @@
 -- The number, the layer and the place of a refusal.
 use Rattle.std.specs.Prelude.{ℕ}
 use Rattle.layouts.specs.declared.fault.Layer.{Layer}
-use Rattle.layouts.specs.declared.fault.Layer.TheVariants.{Source, Unit, Payload, Visit}
+use Rattle.layouts.specs.declared.fault.Layer.TheVariants.{Payload, Visit}
 use Rattle.layouts.specs.declared.fault.FieldFault.{FieldFault}
 use Rattle.layouts.specs.declared.fault.FieldFault.TheVariants.{Short, OutOfRange, PastLimit, Ending}
 use Rattle.layouts.specs.declared.fault.ShortBuffer.{ShortBuffer}

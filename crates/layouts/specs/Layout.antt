@@ -1,11 +1,11 @@
 -- How a payload is laid out in bits: how a field is coded, which fields a record has, how it is read and how it is written.
-use Rattle.std.specs.Prelude.{◌≡◌, ℕ, zero, suc, ◌+◌, ◌-◌, ◌*◌, ◌/◌, ◌%◌, ◌^◌, ◌<◌, ◌≤◌, Bool, true, false, cond, ◌&&◌, List, [], ◌∷◌, ◌++◌, length, take, drop, replicate, ℤ, Ok, Err, Result, ◌==◌, int_le, nat_le, nat_lt}
+use Rattle.std.specs.Prelude.{◌≡◌, ℕ, zero, suc, ◌+◌, ◌-◌, ◌%◌, ◌^◌, ◌<◌, Bool, true, false, cond, ◌&&◌, List, [], ◌∷◌, ◌++◌, length, take, drop, replicate, ℤ, Ok, Err, Result, ◌==◌, int_le, nat_le, nat_lt}
 use Rattle.std.specs.Int.Count.{count_leading_zeros}
 use Rattle.std.specs.Int.{w32}
 use Rattle.std.proofs.Common.{to_z}
 use Rattle.layouts.specs.declared.fault.FieldFault.{FieldFault}
 use Rattle.layouts.specs.declared.fault.FieldFault.TheVariants.{Short, OutOfRange, PastLimit, Ending}
-use Rattle.layouts.specs.Bits.{bit, word, number, bits_of, zeros}
+use Rattle.layouts.specs.Bits.{word, number, bits_of, zeros}
 
 -- what is left of a payload: the place of its next bit, and its bits from there on
 pub record Left : Type 0 where

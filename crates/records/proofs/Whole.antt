@@ -1,5 +1,5 @@
 -- A reader over a whole payload, and a writer over a whole buffer.
-use Rattle.std.proofs.Common.{◌≡◌, ℕ, ◌<◌, ◌≤◌, true, cond, List, length, get_or, take, Ok, Err, Result, sym, refl, ap, ◌∙◌, arith, take_all}
+use Rattle.std.proofs.Common.{◌≡◌, ℕ, ◌<◌, ◌≤◌, cond, List, length, get_or, take, Ok, Err, Result, sym, ap, ◌∙◌, arith, take_all}
 use Rattle.std.proofs.lemmas.Bool.{le-leb, lt-leb}
 use Rattle.layouts.specs.declared.fault.FieldFault.{FieldFault}
 use Rattle.layouts.specs.Bits.{bits_of}
@@ -9,7 +9,6 @@ use Rattle.layouts.specs.Payloads.{size, payload}
 use Rattle.fields.specs.Writing.{Sheet, lays}
 use Rattle.layouts.proofs.Layouts.{lawful, length-payload}
 use Rattle.fields.proofs.Records.{bytes-from, written-front}
-use Rattle.records.specs.declared.fault.PayloadFault.{PayloadFault}
 use Rattle.records.specs.declared.fault.PayloadFault.TheVariants.{TooLong}
 use Rattle.records.specs.Record.{as_payload, reads_as, written}
 

@@ -1,5 +1,5 @@
 -- Angles, in steps of 1 / 65,536 degree.
-use Rattle.std.specs.Prelude.{ℤ, pos, negsuc, neg_ℤ, ◌≤ℤ◌}
+use Rattle.std.specs.Prelude.{ℤ, pos, neg_ℤ, ◌≤ℤ◌}
 
 -- a yaw or roll runs from -180 degrees to one step below 180 degrees
 abbrev pub turn_low : ℤ

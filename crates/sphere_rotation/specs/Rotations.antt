@@ -1,5 +1,5 @@
 -- The angles of a sphere rotation, by their numbers.
-use Rattle.std.specs.Prelude.{◌≡◌, ℕ, ◌^◌, ◌<◌, ℤ, pos, negsuc, FitsSigned}
+use Rattle.std.specs.Prelude.{◌^◌, ◌<◌, ℤ, pos, negsuc, FitsSigned}
 use Rattle.std.proofs.Common.{arith, leb→le, of_z}
 use Rattle.std.specs.Int.{w32}
 use Rattle.std.proofs.lemmas.Int.{ints}

@@ -1,4 +1,4 @@
-use Rattle.std.proofs.Common.{◌≡◌, ◌<◌, length, ap, ◌∙◌, add-one, arith, length-set}
+use Rattle.std.proofs.Common.{◌<◌, length, ap, ◌∙◌, add-one, arith, length-set}
 use Rattle.bounded.specs.Places.{held, fills}
 use Rattle.bounded.proofs.Cells.{held-push, fills-push}
 use Rattle.bounded.proofs.Bounded.add.Goals as goal

@@ -1,5 +1,4 @@
 use Rattle.std.proofs.Common.{◌∷◌, length, drop, refl, arith}
-use lib.Count.{count_leading_zeros}
 use Rattle.std.proofs.lemmas.Bool.{le-leb}
 use Rattle.layouts.specs.Bits.{word, number, bits_of, zeros}
 use Rattle.layouts.specs.Layout.{next_u, next_ue, closing, closes, between}

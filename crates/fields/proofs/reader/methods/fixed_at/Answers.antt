@@ -1,4 +1,4 @@
-use Rattle.std.proofs.Common.{◌≡◌, ap, ◌∙◌, arith}
+use Rattle.std.proofs.Common.{ap, ◌∙◌, arith}
 use Rattle.layouts.specs.Layout.{Code, next, from}
 use Rattle.layouts.proofs.Steps.{next-short, next-whole, taken-below, fixed-narrow, fixed-wide}
 use Rattle.fields.proofs.reader.methods.fixed_at.Goals as goal

@@ -1,4 +1,4 @@
-use Rattle.std.proofs.Common.{◌≡◌, ℕ, ◌+◌, ◌-◌, ◌^◌, min, sym, refl, ap, ◌∙◌, arith}
+use Rattle.std.proofs.Common.{◌≡◌, ℕ, ◌+◌, ◌-◌, ◌^◌, min, ap, ◌∙◌, arith}
 use Rattle.fields.specs.declared.writer.Writer.{Writer}
 use Rattle.layouts.specs.Bits.{bits_of}
 use Rattle.fields.specs.Writing.{Sheet}
