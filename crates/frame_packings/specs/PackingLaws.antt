@@ -1,7 +1,7 @@
 -- Frame packing has the laws of a kind.
 use Rattle.std.specs.Prelude.{◌≡◌, ℕ, ◌+◌, ◌*◌, ◌/◌, ◌<◌, ◌≤◌, Bool, true, false, cond, not, ltb, List, [], ◌∷◌, ◌++◌, map, length, Ok, Err, filter, Result, ◌==◌, nat_le, nat_lt, refl}
 use Rattle.std.proofs.Common.{sym, ap, subst, ◌∙◌, append-nil, append_assoc, arith, length-append}
-use Rattle.std.specs.List.{AllByRecursion as All}
+use Rattle.std.specs.List.{AllByRecursion}
 use Rattle.std.proofs.ByRecursion.{All-append, all_kept_by, All-weaker, kept_by_passes}
 use Rattle.std.proofs.lemmas.List.Filters.{length-filter_both}
 use Rattle.std.proofs.lemmas.Bool.{lt-ltb, le-ltb, ltb-true, le-leb, lt-leb, leb-false}
@@ -70,15 +70,15 @@ kept-short : (p : Packed → Bool) (m : List Packed) → length (filter p m) ≤
 kept-short p m = omega (arith, length-filter_both p (λ x. not (p x)) (λ _. refl) m)
 
 -- all of the first below all of the second
-append-rising : (xs ys : List Packed) (n : ℕ) → Rising xs → Rising ys → All (λ x. x.id < n) xs → All (λ y. n ≤ y.id) ys → Rising (xs ++ ys)
+append-rising : (xs ys : List Packed) (n : ℕ) → Rising xs → Rising ys → AllByRecursion (λ x. x.id < n) xs → AllByRecursion (λ y. n ≤ y.id) ys → Rising (xs ++ ys)
 append-rising [] ys n r s a b = s
 append-rising (x ∷ xs) ys n r s a b =
     (All-append (λ y. x.id < y.id) xs ys r.0 (All-weaker (λ y. n ≤ y.id) (λ y. x.id < y.id) (λ y h. omega (arith, a.0)) ys b), append-rising xs ys n r.1 s a.1 b)
 
-lower-below : (n : ℕ) (m : List Packed) → All (λ x. x.id < n) (lower n m)
+lower-below : (n : ℕ) (m : List Packed) → AllByRecursion (λ x. x.id < n) (lower n m)
 lower-below n m = All-weaker (λ x. nat_lt x.id n ≡ true) (λ x. x.id < n) (λ x h. ltb-true x.id n h) (lower n m) (kept_by_passes (λ x. ltb x.id n) m)
 
-higher-above : (n : ℕ) (m : List Packed) → All (λ x. n < x.id) (higher n m)
+higher-above : (n : ℕ) (m : List Packed) → AllByRecursion (λ x. n < x.id) (higher n m)
 higher-above n m = All-weaker (λ x. nat_lt n x.id ≡ true) (λ x. n < x.id) (λ x h. ltb-true n x.id h) (higher n m) (kept_by_passes (λ x. ltb n x.id) m)
 
 pub joined-rising : (x : Packed) (m : List Packed) → Rising m → Rising (joined x m)
@@ -103,7 +103,7 @@ pub none-sound : Sound []
 none-sound = record { rising = tt; few = omega arith; propers = tt }
 
 -- what holds of each holds of one among them
-all-at : (P : Packed → Type 0) (xs ys : List Packed) (x : Packed) → All P (xs ++ x ∷ ys) → P x
+all-at : (P : Packed → Type 0) (xs ys : List Packed) (x : Packed) → AllByRecursion P (xs ++ x ∷ ys) → P x
 all-at P [] ys x a = a.0
 all-at P (y ∷ xs) ys x a = all-at P xs ys x a.1
 
@@ -173,15 +173,15 @@ id-first p vs id e = short (nat_le (length p) 65535) e
     short false g = ok-err g
 
 -- what stands before x in a rising list is below it
-front_below : (pre xs : List Packed) (x : Packed) → Rising (pre ++ x ∷ xs) → All (λ y. y.id < x.id) pre
+front_below : (pre xs : List Packed) (x : Packed) → Rising (pre ++ x ∷ xs) → AllByRecursion (λ y. y.id < x.id) pre
 front_below [] xs x r = tt
 front_below (y ∷ ys) xs x r = (all-at (λ z. y.id < z.id) ys xs x r.0, front_below ys xs x r.1)
 
-lower-all : (n : ℕ) (m : List Packed) → All (λ y. y.id < n) m → lower n m ≡ m
+lower-all : (n : ℕ) (m : List Packed) → AllByRecursion (λ y. y.id < n) m → lower n m ≡ m
 lower-all n [] a = refl
 lower-all n (x ∷ xs) a = rw (lt-ltb x.id n a.0) (ap (λ l. x ∷ l) (lower-all n xs a.1))
 
-higher-none : (n : ℕ) (m : List Packed) → All (λ y. y.id < n) m → higher n m ≡ []
+higher-none : (n : ℕ) (m : List Packed) → AllByRecursion (λ y. y.id < n) m → higher n m ≡ []
 higher-none n [] a = refl
 higher-none n (x ∷ xs) a = let h : x.id ≤ n = omega (arith, a.0) in rw (le-ltb n x.id h) (higher-none n xs a.1)
 
@@ -237,7 +237,7 @@ framed-lower : (x : Packed) → Proper x → x.id + 1 < 2147483648 → length (f
 framed-lower x p h = omega (arith, framed-bits x 61 (omega arith) p (length-ue 30 x.id (omega arith) h))
 
 -- only the last can have the greatest id
-frames-short : (m : List Packed) → Rising m → All Proper m → length (frames (under 45 (map payload_of m))) ≤ 19 * length m + 1
+frames-short : (m : List Packed) → Rising m → AllByRecursion Proper m → length (frames (under 45 (map payload_of m))) ≤ 19 * length m + 1
 frames-short [] r p = omega arith
 frames-short (x ∷ []) r p = omega (arith, framed-any x p.0, ap length (append-nil (framed (45, payload_of x))))
 frames-short (x ∷ y ∷ ys) r p =

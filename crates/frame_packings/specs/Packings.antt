@@ -1,6 +1,6 @@
 -- Type 45, frame packing: what is in force of it, and what its messages do.
 use Rattle.std.specs.Prelude.{◌≡◌, ℕ, ◌+◌, ◌<◌, ◌≤◌, Bool, true, false, cond, List, [], ◌∷◌, ◌++◌, map, length, Ok, Err, filter, Result, ◌==◌, nat_le, nat_lt}
-use Rattle.std.specs.List.{AllByRecursion as All}
+use Rattle.std.specs.List.{AllByRecursion}
 use Rattle.layouts.specs.Layout.{Inside, Holds}
 use Rattle.layouts.specs.Payloads.{payload}
 use Rattle.records.specs.declared.fault.PayloadFault.{PayloadFault}
@@ -37,7 +37,7 @@ packed id vs = record { id = id; thing = record { content = vs; stay = packing_s
 -- ids go upward, none twice
 abbrev pub Rising : List Packed → Type 0
 Rising [] = Unit {0}
-Rising (x ∷ xs) = All (λ y. x.id < y.id) xs × Rising xs
+Rising (x ∷ xs) = AllByRecursion (λ y. x.id < y.id) xs × Rising xs
 
 -- one that a message can have brought
 abbrev pub Proper : Packed → Type 0
@@ -47,7 +47,7 @@ Proper x = Inside identity x.id × (Holds content x.thing.content × (x.thing.st
 pub record Sound (m : List Packed) : Type 0 where
   pub rising : Rising m
   pub few : length m ≤ 4
-  pub propers : All Proper m
+  pub propers : AllByRecursion Proper m
 
 -- ---- what changes it
 

@@ -2,7 +2,7 @@
 use Rattle.std.specs.Prelude.{◌≡◌, ℕ, ◌<◌, ◌≤◌, Bool, true, false, cond, ◌&&◌, List, [], ◌∷◌, length, Some, None, filter, Option, nat_lt, refl}
 use Rattle.std.proofs.Common.{ap, arith}
 use Rattle.std.proofs.lemmas.List.{length-map}
-use Rattle.std.specs.List.{AllByRecursion as All}
+use Rattle.std.specs.List.{AllByRecursion}
 use Rattle.std.proofs.lemmas.Bool.{lt-ltb, ltb-true}
 use Rattle.bounded.specs.declared.Bounded.{Bounded}
 use Rattle.bounded.specs.Bounded.{items}
@@ -21,11 +21,11 @@ both true true e = (refl, refl)
 both true false e = absurd (omega (arith, ap (λ (x : Bool). cond {A = ℕ} x 1 0) e))
 both false b e = absurd (omega (arith, ap (λ (x : Bool). cond {A = ℕ} x 1 0) e))
 
-below-so : (n : ℕ) (m : List Packed) → below_all n m ≡ true → All (λ y. n < y.id) m
+below-so : (n : ℕ) (m : List Packed) → below_all n m ≡ true → AllByRecursion (λ y. n < y.id) m
 below-so n [] e = tt
 below-so n (x ∷ xs) e = let b = both (nat_lt n x.id) (below_all n xs) e in (ltb-true n x.id b.0, below-so n xs b.1)
 
-so-below : (n : ℕ) (m : List Packed) → All (λ y. n < y.id) m → below_all n m ≡ true
+so-below : (n : ℕ) (m : List Packed) → AllByRecursion (λ y. n < y.id) m → below_all n m ≡ true
 so-below n [] a = refl
 so-below n (x ∷ xs) a = rw (lt-ltb n x.id a.0) (so-below n xs a.1)
 
@@ -55,7 +55,7 @@ held-short (Some x ∷ cs) = omega (arith, held-short cs)
 pub table-few : (t : Bounded Packing 4) → length (items t) ≤ 4
 table-few t = omega (arith, held-short t.places.cells, t.whole)
 
-all-proper : (ps : List Packing) → All Proper (meaning_of ps)
+all-proper : (ps : List Packing) → AllByRecursion Proper (meaning_of ps)
 all-proper [] = tt
 all-proper (p ∷ ps) = ((id-inside p.id, (arrangement-holds p.arrangement, refl)), all-proper ps)
 

@@ -48,8 +48,8 @@ pub struct Request<X> {
 impl<S: Set> Visit<S> {
     // Apart from `make`, since a slice is known to hold bytes only where it is passed on.
     fn make_message(&mut self, kind: u32, payload: &[u8]) -> Answer
-        ensures answer { result ≡ ToMessage (told_message List-as-Kinds.models (book List-as-Kinds self.old) kind payload.now) }
-        ensures after { book List-as-Kinds self.new ≡ step List-as-Kinds.models (book List-as-Kinds self.old) (message kind payload.now) }
+        ensures answer { result ≡ ToMessage (told_message S.List.Kinds.models (book S.List.Kinds self.old) kind payload.now) }
+        ensures after { book S.List.Kinds self.new ≡ step S.List.Kinds.models (book S.List.Kinds self.old) (message kind payload.now) }
         ensures fit { Bytes payload.now }
     {
         Answer::Message(self.message(kind, payload))
@@ -57,8 +57,8 @@ impl<S: Set> Visit<S> {
 
     // Makes one call.
     fn make<X: Source>(&mut self, call: &mut Call<X>) -> Answer
-        ensures after { book List-as-Kinds self.new ≡ step List-as-Kinds.models (book List-as-Kinds self.old) (asked X.Source call.old) }
-        ensures reply { (result, asked X.Source call.new) ≡ reply List-as-Kinds.models (book List-as-Kinds self.old) (asked X.Source call.old) }
+        ensures after { book S.List.Kinds self.new ≡ step S.List.Kinds.models (book S.List.Kinds self.old) (asked X.Source call.old) }
+        ensures reply { (result, asked X.Source call.new) ≡ reply S.List.Kinds.models (book S.List.Kinds self.old) (asked X.Source call.old) }
         ensures fit { Fit (asked X.Source call.old) }
     {
         match call {
@@ -86,8 +86,8 @@ impl<S: Set> Visit<S> {
 
     // Serves one request.
     fn answer_to<X: Source>(&mut self, request: &mut Request<X>)
-        ensures after { book List-as-Kinds self.new ≡ step List-as-Kinds.models (book List-as-Kinds self.old) (asks X.Source request.old) }
-        ensures reply { holds X.Source request.new ≡ answered (reply List-as-Kinds.models (book List-as-Kinds self.old) (asks X.Source request.old)) }
+        ensures after { book S.List.Kinds self.new ≡ step S.List.Kinds.models (book S.List.Kinds self.old) (asks X.Source request.old) }
+        ensures reply { holds X.Source request.new ≡ answered (reply S.List.Kinds.models (book S.List.Kinds self.old) (asks X.Source request.old)) }
         ensures fit { Fit (asks X.Source request.old) }
     {
         let answer = self.make(&mut request.call);
@@ -96,7 +96,7 @@ impl<S: Set> Visit<S> {
 
     // Serves requests in turn: each holds its answer then. To serve one list and then another is to serve the one list.
     pub fn serve<X: Source>(&mut self, requests: &mut [Request<X>])
-        ensures { Served List-as-Kinds.models (book List-as-Kinds self.old) (book List-as-Kinds self.new) (map (asks X.Source) requests.old) (map (holds X.Source) requests.new) }
+        ensures { Served S.List.Kinds.models (book S.List.Kinds self.old) (book S.List.Kinds self.new) (map (asks X.Source) requests.old) (map (holds X.Source) requests.new) }
     {
         for i in 0..requests.len() {
             self.answer_to(&mut requests[i]);

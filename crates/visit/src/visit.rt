@@ -26,7 +26,7 @@ pub struct Visit<S: Set> {
 impl<S: Set> Visit<S> {
     // A visit in which no picture has begun and nothing is in force.
     pub fn new() -> Visit<S>
-        ensures { book List-as-Kinds result ≡ fresh List-as-Kinds.models }
+        ensures { book S.List.Kinds result ≡ fresh S.List.Kinds.models }
     {
         Visit {
             begun: false,
