@@ -1,11 +1,11 @@
 -- Bytes that were escaped, and what is left when that is removed again.
-use Rattle.std.proofs.Common.{◌≡◌, ℕ, ◌<◌, ◌≤◌, Bool, true, false, cond, eqb, leb, ◌⊎◌, List, [], ◌∷◌, sym, refl, ap, ◌∙◌, inl, inr, arith}
-use Rattle.std.proofs.lemmas.Bool.{cases_Bool, cond-true, cond-false, leb-true, leb-false, lt-leb, ne_eqb}
+use Rattle.std.proofs.Common.{◌≡◌, ℕ, ◌<◌, Bool, true, false, cond, eqb, leb, ◌⊎◌, List, [], ◌∷◌, refl, ap, ◌∙◌, inl, inr, arith}
+use Rattle.std.proofs.lemmas.Bool.{cases_Bool, cond-true, cond-false, leb-false, lt-leb, ne_eqb}
 use Rattle.units.specs.declared.unescaped.Zeros.{Zeros}
 use Rattle.units.specs.declared.unescaped.Zeros.TheVariants.{None, One, Two, Removed}
 use Rattle.units.specs.declared.unescaped.Fate.{Fate}
 use Rattle.units.specs.declared.unescaped.Fate.TheVariants.{Handed, Removed as TakenOut, Refused}
-use Rattle.units.specs.Escapes.{after, fate_of, onward, opened, escaped_from, escaped}
+use Rattle.units.specs.Escapes.{after, fate_of, onward, opened, escaped_from}
 
 -- bytes are escaped behind zeros alone
 abbrev Bare : Zeros → Type 0

@@ -1,8 +1,7 @@
 -- Bytes taken one by one into a scratch, and the three ways to the end.
-use Rattle.std.proofs.Common.{◌≡◌, ℕ, ◌+◌, ◌-◌, ◌<◌, ◌≤◌, min, Bool, true, false, cond, leb, List, [], ◌∷◌, ◌++◌, length, get_or, take, drop, set, Ok, Err, Result, sym, refl, ap, ◌∙◌, append_assoc, arith, length-append, length-drop, length-take}
+use Rattle.std.proofs.Common.{◌≡◌, ℕ, ◌+◌, ◌<◌, ◌≤◌, Bool, true, false, leb, List, [], ◌∷◌, ◌++◌, length, get_or, take, drop, set, Ok, Err, sym, ap, ◌∙◌, append_assoc, arith, length-drop}
 use Rattle.std.proofs.lemmas.List.{take_more, take_all, drop_all, drop_more, set_at, length-take-le}
 use Rattle.std.proofs.lemmas.Bool.{cond-true, cond-false, le-leb, lt-leb}
-use Rattle.units.specs.declared.fault.UnitFault.{UnitFault}
 use Rattle.units.specs.declared.fault.UnitFault.TheVariants.{Source, Room}
 use Rattle.units.specs.Fills.{room, filling, filled, unfilled}
 
@@ -58,3 +57,6 @@ module _ (bs s s0 : List ℕ) (n : ℕ) (full : n ≡ room s0) (more : n < lengt
 
   pub full-fault : (fault : Bool) → Err (Room n) ≡ filling bs fault s0
   full-fault fault = sym (cond-false (leb (length bs) (room s0)) _ (Err (Room (room s0))) (lt-leb (length bs) (room s0) (omega arith)) ∙ ap (λ (i : ℕ). Err (Room i)) (sym full))
+
+-- the three ways to the end
+pub ruleset fill_ends = (come, done, end-bytes, end-left, end-sound, end-fault, full-bytes, full-fault)

@@ -1,13 +1,13 @@
 -- Framed messages, read again; and bytes that were read, framed again.
-use Rattle.std.proofs.Common.{◌≡◌, ℕ, zero, suc, ◌+◌, ◌-◌, ◌*◌, ◌/◌, ◌%◌, ◌<◌, ◌≤◌, Bool, true, false, cond, ltb, leb, List, [], ◌∷◌, ◌++◌, length, take, drop, replicate, IfSome, Some, None, Option, sym, refl, ap, ◌∙◌, append_assoc, mod-lt, arith, lit<, length-append, take-append-drop}
-use native.Mathlib.Nat.{mod-add-div'}
-use lib.Pow.{are_bytes}
+use Rattle.std.proofs.Common.{◌≡◌, ℕ, zero, suc, ◌+◌, ◌-◌, ◌*◌, ◌/◌, ◌%◌, ◌<◌, ◌≤◌, true, ltb, leb, List, [], ◌∷◌, ◌++◌, length, take, drop, replicate, IfSome, Some, None, Option, sym, refl, ap, ◌∙◌, append_assoc, mod-lt, arith, lit<, length-append, take-append-drop}
+use Rattle.std.proofs.Math.Nat.{mod-add-div'}
+use Rattle.std.proofs.Math.Pow.{are_bytes}
 use Rattle.std.proofs.lemmas.List.{take_at, drop_at, length-take-le}
-use Rattle.std.proofs.lemmas.Bool.{cond-true, cond-false, le-leb, lt-ltb, leb-true, ltb-true, ltb-false, and_parts}
+use Rattle.std.proofs.lemmas.Bool.{cond-true, le-leb, lt-ltb, leb-true, ltb-true, ltb-false, and_parts}
 use Rattle.layouts.specs.Frames.{Message, count, framed, frames}
 use Rattle.layouts.proofs.Framed.{count-more, count-last}
-use Rattle.units.specs.Units.{Limited, AllLimited, and_then, counted, cut, message, first_message, parts_in, heard, unheard}
-use Rattle.units.proofs.Parts.{found-then, found-cond, heard-more, heard-none, unheard-more, unheard-none, message-nil}
+use Rattle.units.specs.Units.{Limited, AllLimited, counted, cut, message, first_message, parts_in, heard, unheard}
+use Rattle.units.proofs.Parts.{found-then, found-cond, heard-more, heard-none, unheard-more, unheard-none}
 
 -- a count reads as its number
 some_pair : {A B : Type 0} (a c : A) (b : B) → a ≡ c → ◌≡◌ {A = Option (A × B)} (Some (a, b)) (Some (c, b))
@@ -37,8 +37,8 @@ pub message-framed : (m : Message) (rest : List ℕ) → Limited m → message (
 unfolding message framed
 message-framed m rest h =
     let t : List ℕ = count (length m.1) ++ m.1 in
-    let e1 : counted 0 ((count m.0 ++ t) ++ rest) ≡ Some (m.0, t ++ rest) = rw append_assoc (counted-count m.0 (t ++ rest) h.0) in
-    let e2 : counted 0 (t ++ rest) ≡ Some (length m.1, m.1 ++ rest) = rw append_assoc (counted-count (length m.1) (m.1 ++ rest) h.1) in
+    let e1 : counted 0 ((count m.0 ++ t) ++ rest) ≡ Some (m.0, t ++ rest) = rw (append_assoc (count m.0) t rest) (counted-count m.0 (t ++ rest) h.0) in
+    let e2 : counted 0 (t ++ rest) ≡ Some (length m.1, m.1 ++ rest) = rw (append_assoc (count (length m.1)) m.1 rest) (counted-count (length m.1) (m.1 ++ rest) h.1) in
     let e3 : cut (length m.1) (m.1 ++ rest) ≡ Some (m.1, rest) = cut_at m.1 rest in
     rw (e1, e2, e3)
 

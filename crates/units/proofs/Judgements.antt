@@ -1,6 +1,6 @@
 -- When a unit is sound, and where it is broken.
-use Rattle.std.proofs.Common.{◌≡◌, ℕ, zero, suc, ◌+◌, ◌-◌, ◌<◌, ◌≤◌, Bool, true, false, cond, eqb, ltb, ◌⊎◌, ◌↔◌, List, [], ◌∷◌, ◌++◌, length, get_or, take, drop, Some, None, Ok, Err, Result, sym, refl, ap, ◌∙◌, subst, inl, inr, append_assoc, arith, length-append, take-append-drop}
-use lib.Pow.{are_bytes}
+use Rattle.std.proofs.Common.{◌≡◌, ℕ, zero, suc, ◌+◌, ◌-◌, ◌<◌, Bool, true, false, cond, eqb, ltb, ◌⊎◌, List, [], ◌∷◌, ◌++◌, length, get_or, take, drop, Some, None, Ok, Err, Result, sym, refl, ap, ◌∙◌, subst, inl, inr, append_assoc, arith, length-append, take-append-drop}
+use Rattle.std.proofs.Math.Pow.{are_bytes}
 use Rattle.std.proofs.lemmas.List.{append-nil, nil_from_length, drop_more, drop_all, take_at, get_or_at}
 use Rattle.std.proofs.lemmas.Bool.{cases_Bool, cond-true, cond-false, eq-eqb, ne_eqb, eqb-true, eqb-false, lt-ltb, ltb-true, and_parts, and_from}
 use Rattle.layouts.specs.Frames.{Message, framed, frames}
@@ -8,7 +8,7 @@ use Rattle.layouts.proofs.Framed.{length-count, length-framed}
 use Rattle.units.specs.declared.fault.UnitFault.{UnitFault}
 use Rattle.units.specs.declared.fault.UnitFault.TheVariants.{Frame}
 use Rattle.units.specs.declared.unescaped.Zeros.TheVariants.{None as NoZero}
-use Rattle.units.specs.Units.{Limited, AllLimited, unit_bytes, message, heard, unheard, placed, judged_body, judged}
+use Rattle.units.specs.Units.{AllLimited, unit_bytes, message, heard, unheard, placed, judged_body, judged}
 use Rattle.units.specs.Laws.{Broken, last, behind, Lawful}
 use Rattle.units.proofs.Parts.{message-nil, unheard-stops}
 use Rattle.units.proofs.Escapes.{opened-escaped}

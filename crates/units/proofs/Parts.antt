@@ -1,5 +1,5 @@
 -- The messages of bytes, one after the other.
-use Rattle.std.proofs.Common.{◌≡◌, ℕ, zero, suc, ◌+◌, ◌-◌, ◌<◌, ◌≤◌, Bool, true, false, cond, ltb, leb, List, [], ◌∷◌, ◌++◌, length, take, drop, IfSome, Some, None, Option, sym, refl, ap, ◌∙◌, subst, arith, length-drop}
+use Rattle.std.proofs.Common.{◌≡◌, ℕ, zero, suc, ◌+◌, ◌<◌, ◌≤◌, Bool, true, false, cond, ltb, leb, List, [], ◌∷◌, length, take, drop, IfSome, Some, None, Option, sym, refl, ap, ◌∙◌, subst, arith, length-drop}
 use Rattle.layouts.specs.Frames.{Message, framed}
 use Rattle.units.specs.Units.{and_then, counted, cut, message, first_message, parts_in, heard, unheard, placed}
 
@@ -91,9 +91,9 @@ pub placed-none : (bs : List ℕ) (at : ℕ) → message (drop at bs) ≡ None �
 placed-none bs at e = ap (placed at) (heard-none (drop at bs) e)
 
 -- no bytes hold no message
-pub placed-nil : (bs : List ℕ) → length bs ≡ 0 → placed 0 (heard (drop 0 bs)) ≡ []
-placed-nil [] h = placed-none [] 0 message-nil
-placed-nil (b ∷ bs) h = absurd (omega arith)
+pub placed_nil : (bs : List ℕ) → length bs ≡ 0 → placed 0 (heard (drop 0 bs)) ≡ []
+placed_nil [] h = placed-none [] 0 message-nil
+placed_nil (b ∷ bs) h = absurd (omega arith)
 
 -- what is left does not begin with a message
 first_message-stops : (o : Option (Message × List ℕ)) (bs : List ℕ) (more : List ℕ → List Message × List ℕ) → message bs ≡ o → ((m : Message × List ℕ) → o ≡ Some m → message (more m.1).1 ≡ None) → message (first_message o bs more).1 ≡ None
@@ -111,3 +111,6 @@ stops (suc n) bs h =
 
 pub unheard-stops : (bs : List ℕ) → message (unheard bs) ≡ None
 unheard-stops bs = stops (length bs) bs (omega arith)
+
+-- what is left behind a message, and where none is
+pub ruleset left_over = (unheard-more, unheard-none, length-drop)

@@ -1,27 +1,19 @@
 -- Counts and messages, read from a place of a list on.
-use Rattle.std.proofs.Common.{◌≡◌, ℕ, ◌+◌, ◌-◌, ◌<◌, ◌≤◌, Bool, true, false, cond, ltb, leb, List, [], ◌∷◌, ◌++◌, length, get_or, take, drop, Some, None, Option, sym, refl, ap, ◌∙◌, arith, length-drop}
-use Rattle.std.proofs.lemmas.List.{at_drop_more, at_drop_all, drop-drop, length-take-le}
-use Rattle.std.proofs.lemmas.Bool.{cond-true, cond-false, le-leb, lt-leb, lt-ltb, le-ltb}
-use Rattle.layouts.specs.Frames.{Message, count, framed}
+use Rattle.std.proofs.Common.{◌≡◌, ℕ, ◌+◌, ◌-◌, ◌<◌, ◌≤◌, cond, ltb, leb, List, ◌∷◌, length, get_or, take, drop, Some, None, sym, ap, ◌∙◌, arith, length-drop}
+use Rattle.std.proofs.lemmas.List.{at_drop_more, drop-drop, length-take-le}
+use Rattle.std.proofs.lemmas.Bool.{cond-true, cond-false, le-leb, lt-leb, lt-ltb}
+use Rattle.layouts.specs.Frames.{count, framed}
 use Rattle.layouts.proofs.Framed.{length-count, length-framed}
-use Rattle.units.specs.Units.{and_then, counted, cut, message}
+use Rattle.units.specs.Units.{counted, cut, message}
+use Rattle.units.proofs.Parts.{placed-none}
 
 -- a turn of a count, at the byte of a place
 module _ (bs : List ℕ) (sum next b : ℕ) (within : next < length bs) (is : b ≡ get_or bs next 0) where
   turn : counted sum (drop next bs) ≡ cond (leb (sum + b) 65535) (cond (ltb b 255) (Some (sum + b, drop (next + 1) bs)) (counted (sum + b) (drop (next + 1) bs))) None
   turn = at_drop_more (counted sum) bs next 0 within ∙ ap (λ (x : ℕ). counted sum (x ∷ drop (next + 1) bs)) (sym is)
 
-  pub counted-over : 65535 < sum + b → counted sum (drop next bs) ≡ None
-  counted-over h = turn ∙ cond-false (leb (sum + b) 65535) _ None (lt-leb (sum + b) 65535 h)
-
   pub counted-last : sum + b ≤ 65535 → b < 255 → counted sum (drop next bs) ≡ Some (sum + b, drop (next + 1) bs)
   counted-last h k = turn ∙ (cond-true (leb (sum + b) 65535) _ None (le-leb (sum + b) 65535 h) ∙ cond-true (ltb b 255) (Some (sum + b, drop (next + 1) bs)) _ (lt-ltb b 255 k))
-
-  pub counted-more : sum + b ≤ 65535 → 255 ≤ b → counted (sum + b) (drop (next + 1) bs) ≡ counted sum (drop next bs)
-  counted-more h k = sym (turn ∙ (cond-true (leb (sum + b) 65535) _ None (le-leb (sum + b) 65535 h) ∙ cond-false (ltb b 255) _ (counted (sum + b) (drop (next + 1) bs)) (le-ltb b 255 k)))
-
-pub counted_none : (bs : List ℕ) (sum next : ℕ) → length bs ≤ next → counted sum (drop next bs) ≡ None
-counted_none bs sum next h = at_drop_all (counted sum) bs next h
 
 -- a message by its parts
 pub message-no-type : (bs : List ℕ) → counted 0 bs ≡ None → message bs ≡ None
@@ -62,3 +54,9 @@ found-end bs at next start t n e f h k =
     let g : length (framed (t, take n (drop start bs))) ≡ length (count t) + (length (count n) + n) =
     length-framed t (take n (drop start bs)) ∙ (rw p (omega (arith, length-count t, length-count n))) in
     rw i (omega (arith, g))
+
+-- no message at a place
+pub ruleset none_here = (message-no-type, message-no-size, message-short, placed-none, length-drop)
+
+-- a count at a place
+pub ruleset counted_here = (counted-last, length-count)

@@ -1,11 +1,11 @@
 -- Writing into a buffer from a place on.
 use Rattle.std.proofs.Common.{◌≡◌, ℕ, suc, ◌+◌, ◌-◌, ◌<◌, ◌≤◌, List, [], ◌∷◌, ◌++◌, length, take, drop, set, sym, refl, ap, ◌∙◌, append_assoc, arith, length-append, length-drop, length-take}
-use lib.Seq.{paste}
+use Rattle.std.proofs.Math.Seq.{paste}
 use borrow.Rule.Slice.PartMut.{put_mid}
 use Rattle.std.proofs.lemmas.List.Edits.{paste_all, paste-paste}
 use Rattle.std.proofs.lemmas.List.{set_split, drop-drop}
 use Rattle.layouts.specs.Frames.{count, framed}
-use Rattle.layouts.proofs.Framed.{count-more, count-last}
+use Rattle.layouts.proofs.Framed.{count-more, count-last, length-count}
 use Rattle.units.specs.Writings.{put, head}
 
 -- one after the other
@@ -47,3 +47,9 @@ message-put at end hd p b0 e h =
     let i : end - (at + length hd) ≡ length p = omega arith in
     ap (λ (k : ℕ). take (at + length hd) b1 ++ (p ++ drop k (drop (at + length hd) b1))) i
     ∙ (ap (λ (xs : List ℕ). take (at + length hd) b1 ++ (p ++ xs)) (drop-drop (length p) (at + length hd) b1) ∙ put-put at hd p b0 (omega arith))
+
+-- how long counts are, and how they are written
+pub ruleset count_writes = (length-count, length-append, count-step, count-end, put-put)
+
+-- a message, by its head and its payload
+pub ruleset part_writes = (framed-head, message-put, length-append)

@@ -1,5 +1,5 @@
 -- The frame of a unit: messages as its bytes, and its bytes as messages.
-use Rattle.std.specs.Prelude.{ℕ, zero, suc, ◌+◌, ◌-◌, ◌≤◌, Bool, true, false, cond, List, [], ◌∷◌, ◌++◌, length, take, drop, Some, None, Ok, Err, Option, Result, ◌==◌, nat_le, nat_lt, slice_index}
+use Rattle.std.specs.Prelude.{ℕ, zero, suc, ◌+◌, ◌-◌, ◌≤◌, false, cond, List, [], ◌∷◌, ◌++◌, length, take, drop, Some, None, Ok, Err, Option, Result, ◌==◌, nat_le, nat_lt, slice_index}
 use Rattle.layouts.specs.Frames.{Message, framed, frames}
 use Rattle.units.specs.declared.fault.UnitFault.{UnitFault}
 use Rattle.units.specs.declared.fault.UnitFault.TheVariants.{Frame}

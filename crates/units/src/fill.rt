@@ -16,6 +16,7 @@ fn room_of(scratch: &[u8]) -> usize
 }
 
 // Takes the bytes of a source to its end into the scratch's front, and answers how many they are.
+#[tactic(auto, using(crate::proofs::Fills::fill_ends))]
 pub fn fill<X: Source>(source: &mut X, scratch: &mut [u8]) -> Result<usize, UnitFault>
     ensures answer { result ≡ filling (X.Source.coming source.old) (X.Source.faulty source.old) scratch.old }
     ensures bytes { scratch.new ≡ filled (X.Source.coming source.old) scratch.old }

@@ -45,6 +45,7 @@ struct Found {
 }
 
 // The type or the size at a place.
+#[tactic(auto, using(crate::proofs::Readings::counted_here))]
 fn count_at(bytes: &[u8], at: usize) -> Option<Count>
     ensures { Counts result bytes.now at }
 {
@@ -65,6 +66,7 @@ fn count_at(bytes: &[u8], at: usize) -> Option<Count>
 }
 
 // The message at a place.
+#[tactic(auto, using(crate::proofs::Readings::none_here))]
 fn message_at(bytes: &[u8], at: usize) -> Option<Found>
     ensures { Finds result bytes.now at }
 {
@@ -83,6 +85,7 @@ fn message_at(bytes: &[u8], at: usize) -> Option<Found>
 }
 
 // Where the messages end: the place of the first that does not fit, or the number of bytes.
+#[tactic(auto, using(crate::proofs::Parts::left_over))]
 fn messages_end(body: &[u8]) -> usize
     ensures { result + length (unheard body.now) ≡ length body.now }
 {
@@ -95,6 +98,7 @@ fn messages_end(body: &[u8]) -> usize
 
 impl<'a> Messages<'a> {
     // Judges the frame of a whole unit, and hands out its messages if it is sound.
+    #[tactic(auto, using(crate::proofs::Parts::placed_nil))]
     pub fn new(bytes: &'a [u8]) -> Result<Messages<'a>, UnitFault>
         ensures { result_map_both coming (λ f. f) result ≡ judged bytes.now }
     {

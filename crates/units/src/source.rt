@@ -33,6 +33,7 @@ pub struct Clean<'a> {
 }
 
 impl<'a> Clean<'a> {
+    #[tactic(auto, using(crate::proofs::Cleans::as_bytes_same))]
     pub fn new(bytes: &'a [u8]) -> Clean<'a>
         ensures { clean_bytes result ≡ bytes.now }
     {

@@ -6,6 +6,7 @@ ghost use Rattle.units.specs.Writings.{put, head, framed_length, limited, fits};
 use crate::frame::{GREATEST, LAST};
 
 // The bytes of a type or a size.
+#[tactic(auto, using(crate::proofs::Writings::count_writes))]
 fn count_len(number: usize) -> usize
     ensures value { result ≡ length (count number) }
     ensures small { result ≤ number + 1 }
@@ -35,6 +36,7 @@ fn has_room(kind: u32, size: usize, len: usize, at: usize) -> bool
 }
 
 // Writes a type or a size from a place on, and answers the place behind it.
+#[tactic(auto, using(crate::proofs::Writings::count_writes))]
 fn put_count(number: usize, buffer: &mut [u8], at: usize) -> usize
     requires { at + length (count number) ≤ length buffer.old }
     ensures place { result ≡ at + length (count number) }
@@ -52,6 +54,7 @@ fn put_count(number: usize, buffer: &mut [u8], at: usize) -> usize
 }
 
 // Writes a type and a size, one after the other. The clause `len` follows from `place`, and is there for the callers' search.
+#[tactic(auto, using(crate::proofs::Writings::count_writes))]
 fn put_counts(kind: usize, size: usize, buffer: &mut [u8], at: usize) -> usize
     requires { at + (length (count kind) + length (count size)) ≤ length buffer.old }
     ensures place { result ≡ at + length (head kind size) }
@@ -63,6 +66,7 @@ fn put_counts(kind: usize, size: usize, buffer: &mut [u8], at: usize) -> usize
 }
 
 // Writes a type, a size and a payload, one after the other.
+#[tactic(auto, using(crate::proofs::Writings::part_writes))]
 fn put_parts(kind: usize, payload: &[u8], buffer: &mut [u8], at: usize) -> usize
     requires { at + framed_length kind (length payload.now) ≤ length buffer.old }
     ensures place { result ≡ at + length (framed (kind, payload.now)) }
