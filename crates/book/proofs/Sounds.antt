@@ -19,7 +19,7 @@ use Rattle.book.proofs.Offers.{here, behind, on-left, on-right, judged-short, ju
 
 pub sounds-nothing : (ks : Models) → Lawfuls ks → Sounds ks (nothing ks)
 sounds-nothing empty l = tt
-sounds-nothing (first k ks) l = (l.0.Sound-none, sounds-nothing ks l.1)
+sounds-nothing (first k ks) l = (l.0.sound_none, sounds-nothing ks l.1)
 sounds-nothing (both ks js) l = (sounds-nothing ks l.0, sounds-nothing js l.1)
 
 sounds-turns : (ks : Models) → Lawfuls ks → (m : Meanings ks) (mark : Bool) → Sounds ks m → Sounds ks (turns ks m mark)
