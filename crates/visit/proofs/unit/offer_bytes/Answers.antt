@@ -3,5 +3,5 @@ use Rattle.units.specs.Readings.{coming}
 use Rattle.visit.proofs.Brought.{few-messages}
 use Rattle.visit.proofs.unit.offer_bytes.Goals as goal
 
-pub offer-all-requires : goal.offer-all-requires
-offer-all-requires g c = omega (arith, few-messages c.args.bytes.now (coming c.in-ok-messages.messages) c.in-ok-messages.ensures)
+pub offer_all-requires : goal.offer_all-requires
+offer_all-requires g c = omega (arith, few-messages c.args.bytes.now (coming c.in_ok-messages.messages) c.in_ok-messages.ensures)

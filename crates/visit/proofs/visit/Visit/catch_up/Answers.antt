@@ -3,11 +3,11 @@ use Rattle.visit.proofs.visit.Visit.catch_up.Goals as goal
 
 pub save-requires : goal.save-requires
 save-requires g c =
-    let ks = g.List.Kinds.models in
-    let l = g.List.Kinds.lawful in
+    let ks = g.S.List.Kinds.models in
+    let l = g.S.List.Kinds.lawful in
     let p = g.met.S.Set.proper in
     let kinds = c.args.self.now.kinds in
     record {
-      limited = parts-limited ks l p (g.List.Kinds.meanings kinds) (g.List.Kinds.sound kinds);
-      short = parts-short ks l p (g.List.Kinds.meanings kinds) (g.List.Kinds.sound kinds);
+      limited = parts-limited ks l p (g.S.List.Kinds.meanings kinds) (g.S.List.Kinds.sound kinds);
+      short = parts-short ks l p (g.S.List.Kinds.meanings kinds) (g.S.List.Kinds.sound kinds);
     }

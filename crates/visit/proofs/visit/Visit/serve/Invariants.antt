@@ -9,9 +9,9 @@ use Rattle.visit.proofs.visit.Visit.serve.Given as goal
 -- the requests that are left are as they came; what is held and what the book replies to them is what it replies to all
 abbrev pub invariant-loop-i : goal.invariant-loop-i
 invariant-loop-i g l =
-    let ks = g.List.Kinds.models in
-    let b = book g.List.Kinds l.self in
-    let b0 = book g.List.Kinds l.initial.self in
+    let ks = g.S.List.Kinds.models in
+    let b = book g.S.List.Kinds l.self in
+    let b0 = book g.S.List.Kinds l.initial.self in
     let calls = map (asks g.X.Source) l.initial.requests in
     (l.i ≤ length l.requests)
     × (length l.requests ≡ length l.initial.requests)
