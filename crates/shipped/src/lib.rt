@@ -44,18 +44,26 @@ mod tests {
     use units::source::Clean;
     use visit::visit::Visit;
 
+    // The tests go over any set, and are run over the shipped one, which each names once: so the prover looks into it
+    // once.
     #[test]
-    fn shipped_set(rt: HostRuntime) -> Result<(), Fail> {
-        all::<Shipped>(&rt)
+    fn cubemap(rt: HostRuntime) -> Result<(), Fail> {
+        cubemap_of::<Shipped>(&rt)
     }
 
-    // The tests go over any set, and are run over the shipped one, which is named once: so the prover looks into it once.
-    fn all<S: Set>(rt: &impl Abort) -> Result<(), Fail> {
-        cubemap::<S>(rt).note("cubemap")?;
-        light_level_and_orientation::<S>(rt).note("light level and orientation")?;
-        outside_and_short::<S>(rt).note("outside and short")?;
-        cues::<S>(rt).note("cues")?;
-        Ok(())
+    #[test]
+    fn light_level_and_orientation(rt: HostRuntime) -> Result<(), Fail> {
+        light_level_and_orientation_of::<Shipped>(&rt)
+    }
+
+    #[test]
+    fn outside_and_short(rt: HostRuntime) -> Result<(), Fail> {
+        outside_and_short_of::<Shipped>(&rt)
+    }
+
+    #[test]
+    fn cues(rt: HostRuntime) -> Result<(), Fail> {
+        cues_of::<Shipped>(&rt)
     }
 
     // What a message answers: the number and the place of its refusal, or 0 and 0 where it is granted.
@@ -75,7 +83,7 @@ mod tests {
         }
     }
 
-    fn cubemap<S: Set>(rt: &impl Abort) -> Result<(), Fail> {
+    fn cubemap_of<S: Set>(rt: &impl Abort) -> Result<(), Fail> {
         let mut visit: Visit<S> = Visit::new();
         let mut buffer = [0; 1];
         assert_eq!(rt; told(&mut visit, 151, &[0x60]), (1, 0));
@@ -95,7 +103,7 @@ mod tests {
         Ok(())
     }
 
-    fn light_level_and_orientation<S: Set>(rt: &impl Abort) -> Result<(), Fail> {
+    fn light_level_and_orientation_of<S: Set>(rt: &impl Abort) -> Result<(), Fail> {
         let mut visit: Visit<S> = Visit::new();
         let mut buffer = [0; 4];
         visit.picture(true);
@@ -123,7 +131,7 @@ mod tests {
         }
     }
 
-    fn outside_and_short<S: Set>(rt: &impl Abort) -> Result<(), Fail> {
+    fn outside_and_short_of<S: Set>(rt: &impl Abort) -> Result<(), Fail> {
         let mut visit: Visit<S> = Visit::new();
         let mut buffer = [7; 3];
         assert_eq!(rt; number(visit.look(144, 0, &mut buffer)), 1);
@@ -149,7 +157,7 @@ mod tests {
         }
     }
 
-    fn cues<S: Set>(rt: &impl Abort) -> Result<(), Fail> {
+    fn cues_of<S: Set>(rt: &impl Abort) -> Result<(), Fail> {
         let unit = [0x97, 1, 0x60, 0x80];
         let mut scratch = [0; 16];
         let mut buffer = [0; 4];
