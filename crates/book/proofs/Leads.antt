@@ -1,5 +1,5 @@
 -- What is in force of a kind is what its own events lead it to.
-use Rattle.std.proofs.Common.{◌≡◌, ℕ, Bool, true, false, cond, eqb, leb, ◌⊎◌, List, [], ◌∷◌, ◌++◌, length, Ok, Err, Result, sym, refl, ap, ◌∙◌, subst, inl, inr, ⊎_elim, ne_eqb, eqb-true}
+use Rattle.std.proofs.Common.{◌≡◌, ℕ, Bool, true, false, cond, eqb, leb, List, [], ◌∷◌, ◌++◌, length, Ok, Err, Result, sym, refl, ap, ◌∙◌, subst, ⊎_elim, ne_eqb, eqb-true}
 use Rattle.std.proofs.lemmas.Bool.{cases_Bool, cond-true, cond-false}
 use Rattle.layouts.specs.Frames.{Message}
 use Rattle.kinds.specs.Outcome.{after}
@@ -7,7 +7,7 @@ use Rattle.kinds.specs.Model.{Model}
 use Rattle.units.specs.declared.fault.UnitFault.{UnitFault}
 use Rattle.book.specs.Models.{Models, empty, first, both, Meanings, nothing, turns, has, offers, part_of, listed, Apart, Distinct}
 use Rattle.book.specs.Units.{judged, brought, offered_all, offered_from}
-use Rattle.book.specs.Book.{Asked, picture, clear, message, unit, look, catch_up, Book, fresh, step, run}
+use Rattle.book.specs.Book.{Asked, picture, clear, message, unit, look, catch_up, Book, step, run}
 use Rattle.book.specs.Events.{Event, turned, cleared, given, of_message, of_messages, of_unit, of_call, begins, events, led, Led, SameOf}
 use Rattle.book.proofs.Offers.{here, behind, on-left, on-right, apart-left, apart-right, left-apart, has-none, distinct-left, distinct-right, judged-short, judged-long}
 

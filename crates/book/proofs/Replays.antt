@@ -1,14 +1,14 @@
 -- Every kind's part, offered in order to a set with nothing in force, is granted and leads to what was in force.
-use Rattle.std.proofs.Common.{◌≡◌, ℕ, ◌+◌, ◌≤◌, Bool, true, false, cond, eqb, leb, ◌⊎◌, List, [], ◌∷◌, ◌++◌, length, sym, refl, ap, ◌∙◌, subst, inl, inr, ⊎_elim, arith, length-append, eq-eqb, ne_eqb, le-leb}
+use Rattle.std.proofs.Common.{◌≡◌, ℕ, ◌+◌, ◌≤◌, true, false, eqb, List, [], ◌∷◌, ◌++◌, length, sym, refl, ap, ◌∙◌, subst, ⊎_elim, arith, length-append, eq-eqb, ne_eqb}
 use borrow.Author.Tests.{clash}
 use Rattle.std.proofs.lemmas.Bool.{cases_Bool, cond-true, cond-false}
 use Rattle.layouts.specs.Frames.{Message, framed, frames, under}
 use Rattle.layouts.proofs.Framed.{length-framed}
-use Rattle.kinds.specs.Outcome.{Outcome, granted, passed, refused, after, lift}
-use Rattle.kinds.specs.Model.{Model, Lawful, Replay}
+use Rattle.kinds.specs.Outcome.{granted, lift}
+use Rattle.kinds.specs.Model.{Model, Replay}
 use Rattle.units.specs.Units.{AllLimited}
 use Rattle.book.specs.Models.{Models, empty, first, both, Meanings, Sounds, Lawfuls, nothing, has, offers, messages, listed, Numbered, Distinct, total, Proper}
-use Rattle.book.proofs.Offers.{granted-has, left-apart, apart-has, distinct-left, distinct-right, has-none}
+use Rattle.book.proofs.Offers.{granted-has, left-apart, apart-has, distinct-left, distinct-right}
 
 -- the messages, offered in order, are all granted, and lead from m to n
 abbrev pub Replays : (ks : Models) → Meanings ks → List Message → Meanings ks → Type 0

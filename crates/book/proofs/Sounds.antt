@@ -1,5 +1,5 @@
 -- Every list of calls comes to sound meanings alone.
-use Rattle.std.proofs.Common.{◌≡◌, ℕ, ◌+◌, ◌<◌, Bool, true, false, cond, ◌&&◌, eqb, ltb, leb, ◌⊎◌, List, [], ◌∷◌, ◌++◌, length, Ok, Err, Result, sym, refl, ap, ◌∙◌, subst, inl, inr, ⊎_elim, arith}
+use Rattle.std.proofs.Common.{◌≡◌, ℕ, ◌+◌, Bool, true, false, cond, eqb, ltb, leb, List, [], ◌∷◌, ◌++◌, length, Ok, Err, Result, sym, refl, ap, subst, ⊎_elim}
 use lib.Pow.{are_bytes}
 use Rattle.std.proofs.lemmas.Bool.{cases_Bool, lt-ltb, and_from}
 use Rattle.layouts.specs.Frames.{Message, count, framed, frames}
@@ -10,8 +10,8 @@ use Rattle.units.specs.Units.{unit_bytes, placed, judged as framing}
 use Rattle.units.specs.Fills.{filling}
 use Rattle.units.proofs.Judgements.{Judged, sound, broken, judgement}
 use Rattle.book.specs.Models.{Models, empty, first, both, Meanings, Sounds, Lawfuls, nothing, turns, has, offers}
-use Rattle.book.specs.Units.{judged, framed as framed_by, brought, offered_all, offered_from}
-use Rattle.book.specs.Book.{Asked, picture, clear, message, unit, look, catch_up, Book, fresh, step, run}
+use Rattle.book.specs.Units.{judged, framed as framed_by, offered_all, offered_from}
+use Rattle.book.specs.Book.{Asked, picture, clear, message, unit, look, catch_up, Book, step, run}
 use Rattle.book.specs.Trust.{Fit, Fits}
 use Rattle.book.proofs.Offers.{here, behind, on-left, on-right, judged-short, judged-long}
 

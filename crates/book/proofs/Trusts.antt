@@ -1,20 +1,18 @@
 -- What holds of every list of calls, of every list of kinds that makes a set.
-use Rattle.std.proofs.Common.{◌≡◌, ℕ, ◌+◌, ◌≤◌, min, Bool, true, false, cond, leb, ◌⊎◌, ◌↔◌, List, [], ◌∷◌, ◌++◌, length, take, drop, Ok, Err, Result, sym, refl, ap, ◌∙◌, subst, inl, inr, ⊎_elim, arith, length-append, le-leb, leb-true}
-use borrow.Author.Tests.{clash}
+use Rattle.std.proofs.Common.{◌≡◌, ℕ, ◌+◌, ◌≤◌, min, Bool, true, false, cond, leb, ◌↔◌, List, [], ◌∷◌, ◌++◌, length, take, drop, Ok, Err, Result, sym, refl, ap, ◌∙◌, subst, arith, length-append, le-leb}
 use Rattle.std.proofs.lemmas.List.{take_at}
-use Rattle.std.proofs.lemmas.Bool.{cases_Bool, cond-true, cond-false}
+use Rattle.std.proofs.lemmas.Bool.{cond-true}
 use Rattle.std.specs.Result.{result_map_both}
 use Rattle.layouts.specs.Frames.{Message, framed, frames, fronted}
 use Rattle.kinds.specs.Outcome.{granted, after as after_offer, told, looked}
-use Rattle.units.specs.Units.{AllLimited, unit_bytes, placed, judged as framing}
-use Rattle.units.specs.Fills.{room, filling}
+use Rattle.units.specs.Units.{AllLimited, unit_bytes, placed}
+use Rattle.units.specs.Fills.{room}
 use Rattle.units.proofs.Judgements.{unit-judged, lawful}
-use Rattle.book.specs.declared.answer.Tally.{Tally}
 use Rattle.book.specs.declared.fault.Refusal.{Refusal}
 use Rattle.book.specs.declared.fault.Refusal.TheVariants.{NoPicture, Unit as OfUnit, ShortBuffer}
 use Rattle.book.specs.Models.{Models, empty, first, both, Meanings, Sounds, Lawfuls, nothing, turns, part_of, messages, listed, Proper}
 use Rattle.book.specs.Units.{judged, framed as framed_by, brought, offered_all, offered_from, untold, noted, tallied}
-use Rattle.book.specs.Book.{Asked, picture, unit, Book, fresh, run, saved, handed, told_unit, told_look, told_catch_up, replies}
+use Rattle.book.specs.Book.{Asked, picture, Book, fresh, saved, handed, told_unit, told_look, replies}
 use Rattle.book.specs.Events.{events}
 use Rattle.book.specs.Trust.{Fits, after, Saves, loading, all_granted, Trusted}
 use Rattle.book.proofs.Offers.{judged-short}

@@ -5,7 +5,6 @@ use Rattle.layouts.specs.declared.fault.Layer.TheVariants.{Visit}
 use Rattle.kinds.specs.Faults.{offer_number, offer_layer, offer_place}
 use Rattle.kinds.specs.declared.fault.LookFault.{LookFault}
 use Rattle.kinds.specs.declared.fault.LookFault.TheVariants.{Missing as NoPayload, ShortBuffer as NoRoom}
-use Rattle.units.specs.declared.fault.UnitFault.{UnitFault}
 use Rattle.units.specs.Faults.{unit_number, unit_layer, unit_place}
 use Rattle.book.specs.declared.fault.Refusal.{Refusal}
 use Rattle.book.specs.declared.fault.Refusal.TheVariants.{NoPicture, Unit, Offer, Missing, ShortBuffer}

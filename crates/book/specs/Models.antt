@@ -1,5 +1,5 @@
 -- Lists of kinds, without their code: what is in force of each, and what is done to all of them.
-use Rattle.std.specs.Prelude.{◌≡◌, ℕ, ◌+◌, ◌≤◌, Bool, true, false, cond, List, [], ◌∷◌, ◌++◌, length, ◌==◌, ◌≢◌}
+use Rattle.std.specs.Prelude.{ℕ, ◌+◌, ◌≤◌, Bool, true, false, cond, List, [], ◌∷◌, ◌++◌, length, ◌==◌, ◌≢◌}
 use Rattle.layouts.specs.Frames.{Message, under}
 use Rattle.kinds.specs.Outcome.{Outcome, passed, lift}
 use Rattle.kinds.specs.Model.{Model, Lawful}

@@ -1,7 +1,6 @@
 -- What holds of every list of calls of a visit: the way to a cue leaves no trace.
 use Rattle.std.specs.Prelude.{◌≡◌, ℕ, ◌≤◌, Bool, false, ◌↔◌, List, [], ◌∷◌, length, take, None, Ok}
 use Rattle.kinds.specs.Model.{Bytes}
-use Rattle.book.specs.declared.answer.Answer.{Answer}
 use Rattle.book.specs.declared.answer.Tally.{Tally}
 use Rattle.book.specs.Models.{Models, nothing}
 use Rattle.book.specs.Book.{Asked, picture, clear, message, unit, look, catch_up, Book, fresh, run, told_unit, told_look, told_catch_up, replies}

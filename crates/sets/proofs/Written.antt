@@ -1,18 +1,17 @@
 -- Parts written one after the other, and how much they take.
-use Rattle.std.proofs.Common.{◌≡◌, ℕ, suc, ◌+◌, ◌-◌, ◌<◌, ◌≤◌, Bool, true, false, cond, eqb, ltb, leb, ◌⊎◌, List, [], ◌∷◌, ◌++◌, length, get_or, take, drop, set, Some, None, Option, sym, refl, ap, ◌∙◌, subst, inl, inr, ⊎_elim, append_assoc, append-nil, arith, length-append, length-drop, length-take, le-leb, leb-true}
+use Rattle.std.proofs.Common.{◌≡◌, ℕ, ◌+◌, ◌-◌, ◌<◌, ◌≤◌, Bool, true, false, cond, ltb, leb, List, [], ◌∷◌, ◌++◌, length, get_or, take, drop, Some, None, Option, sym, refl, ap, ◌∙◌, append-nil, arith, length-append, length-drop, length-take, le-leb, leb-true}
 use borrow.Author.Tests.{clash}
 use borrow.Rule.Slice.PartMut.{put_mid}
 use Rattle.std.proofs.lemmas.List.{drop_more, drop_all}
-use Rattle.std.proofs.lemmas.Bool.{cases_Bool, lt-ltb, cond-true, cond-false}
+use Rattle.std.proofs.lemmas.Bool.{lt-ltb, cond-true, cond-false}
 use Rattle.layouts.specs.Frames.{Message, framed, frames, under, fronted}
 use Rattle.layouts.proofs.Framed.{length-framed, length-count}
 use Rattle.kinds.specs.Outcome.{length_of, copied, looked}
-use Rattle.units.specs.Units.{and_then, AllLimited, unit_bytes}
+use Rattle.units.specs.Units.{and_then}
 use Rattle.units.specs.Writings.{put, head, framed_length, limited, fits}
-use Rattle.units.proofs.Writings.{put-put, length-put, put_one, framed-head, message-put}
-use Rattle.book.specs.Models.{Models, empty, first, both, Meanings, messages}
+use Rattle.units.proofs.Writings.{length-put, framed-head, message-put}
 use Rattle.sets.specs.declared.parts.Size.{Size}
-use Rattle.sets.specs.Parts.{more, sized, sizes, behind, written, writes}
+use Rattle.sets.specs.Parts.{more, sized, written}
 
 some_same : (x y : ℕ) → Some x ≡ Some y → x ≡ y
 some_same x y e = cc

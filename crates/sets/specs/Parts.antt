@@ -1,5 +1,5 @@
 -- The parts of kinds, framed one after the other: how much they take, and a buffer that they are written to.
-use Rattle.std.specs.Prelude.{ℕ, ◌+◌, Bool, false, cond, List, [], ◌∷◌, length, Some, None, Option, nat_lt, slice_set}
+use Rattle.std.specs.Prelude.{ℕ, ◌+◌, false, cond, List, [], ◌∷◌, length, Some, None, Option, nat_lt, slice_set}
 use Rattle.layouts.specs.Frames.{Message, framed, under}
 use Rattle.units.specs.Units.{and_then}
 use Rattle.units.specs.Writings.{put, framed_length, fits}

@@ -1,9 +1,9 @@
 -- The messages of a unit that has filled its scratch.
-use Rattle.std.proofs.Common.{◌≡◌, ℕ, zero, suc, ◌+◌, ◌-◌, ◌≤◌, min, Bool, true, false, cond, eqb, ltb, leb, List, [], ◌∷◌, ◌++◌, length, get_or, take, drop, Some, None, Ok, Err, Option, Result, sym, refl, ap, ◌∙◌, subst, arith, length-take, leb-true}
+use Rattle.std.proofs.Common.{◌≡◌, ℕ, zero, suc, ◌+◌, ◌-◌, ◌≤◌, Bool, true, false, cond, eqb, ltb, leb, List, [], ◌∷◌, ◌++◌, length, get_or, take, drop, Some, None, Ok, Err, Option, Result, sym, refl, ap, ◌∙◌, subst, arith, length-take, leb-true}
 use Rattle.std.proofs.lemmas.List.{take_at, take_all}
 use Rattle.layouts.specs.Frames.{Message, framed}
 use Rattle.units.specs.declared.fault.UnitFault.{UnitFault}
-use Rattle.units.specs.declared.fault.UnitFault.TheVariants.{Source, Room, Frame}
+use Rattle.units.specs.declared.fault.UnitFault.TheVariants.{Source, Room}
 use Rattle.units.specs.Fills.{room, filling, filled}
 use Rattle.units.specs.Units.{message, first_message, parts_in, heard, unheard, placed, judged_body, judged}
 use Rattle.book.specs.Units.{framed as framed_by, brought}

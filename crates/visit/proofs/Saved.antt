@@ -1,12 +1,11 @@
 -- A catch-up that is measured, and then written.
-use Rattle.std.proofs.Common.{◌≡◌, ℕ, suc, ◌+◌, ◌-◌, ◌<◌, ◌≤◌, Bool, true, false, cond, eqb, ltb, leb, List, [], ◌∷◌, ◌++◌, length, take, drop, set, Some, None, Ok, Err, Option, Result, sym, refl, ap, ◌∙◌, subst, arith, length-append, take-append-drop, le-leb, leb-true}
+use Rattle.std.proofs.Common.{◌≡◌, ℕ, ◌+◌, ◌<◌, ◌≤◌, Bool, true, false, cond, ltb, leb, List, [], ◌∷◌, ◌++◌, length, take, drop, set, Some, None, Ok, Err, Option, sym, refl, ap, ◌∙◌, arith, length-append, take-append-drop, le-leb}
 use Rattle.std.proofs.lemmas.Bool.{lt-ltb, lt-leb, cond-true, cond-false}
 use Rattle.layouts.proofs.Framed.{length-count}
 use Rattle.layouts.specs.Frames.{Message, framed, frames, under, fronted}
 use Rattle.units.specs.Units.{and_then, Limited, AllLimited, unit_bytes}
 use Rattle.units.specs.Writings.{put, framed_length, limited, fits}
 use Rattle.units.proofs.Writings.{put-put, length-put, put_one}
-use Rattle.book.specs.declared.fault.Refusal.{Refusal}
 use Rattle.book.specs.declared.fault.Refusal.TheVariants.{ShortBuffer}
 use Rattle.book.specs.Models.{Models, empty, first, both, Meanings, messages}
 use Rattle.book.specs.Book.{saved}

@@ -1,5 +1,5 @@
 -- Calls made one after the other, with vectors for their buffers.
-use Rattle.std.proofs.Common.{◌≡◌, ℕ, zero, suc, ◌+◌, ◌<◌, ◌≤◌, Bool, true, cond, ltb, List, [], ◌∷◌, ◌++◌, map, length, get_or, take, drop, set, Option, Result, sym, refl, ap, ◌∙◌, subst, append_assoc, append-nil, arith}
+use Rattle.std.proofs.Common.{◌≡◌, ℕ, suc, ◌+◌, ◌<◌, ◌≤◌, Bool, true, cond, ltb, List, [], ◌∷◌, ◌++◌, map, length, get_or, take, drop, set, Option, Result, sym, ap, ◌∙◌, subst, append_assoc, append-nil, arith}
 use lib.Pow.{are_bytes}
 use Rattle.std.proofs.lemmas.List.{take_at, take_all, drop_all, drop_more, drop-drop, take_more, take_more_set, drop-set-lt, get_or-drop, map-append}
 use Rattle.std.proofs.lemmas.Bool.{and_parts, ltb-true}

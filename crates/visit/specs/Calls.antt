@@ -1,5 +1,5 @@
 -- A call of the code, by its arguments alone; and what serving a list of them comes to.
-use Rattle.std.specs.Prelude.{◌≡◌, ℕ, Bool, List, map, Some, vec_items, Option}
+use Rattle.std.specs.Prelude.{◌≡◌, List, map, Some, vec_items, Option}
 use Rattle.units.specs.declared.source.Source.{Ghosts}
 use Rattle.book.specs.declared.answer.Answer.{Answer}
 use Rattle.book.specs.Models.{Models}

@@ -1,4 +1,4 @@
-use Rattle.std.proofs.Common.{◌≡◌, ℕ, ◌<◌, List, length, sym, ap, ◌∙◌, arith}
+use Rattle.std.proofs.Common.{ℕ, ◌<◌, List, length, sym, ap, ◌∙◌, arith}
 use Rattle.sets.specs.Parts.{written}
 use Rattle.sets.proofs.Written.{written-more, written_none, left-none}
 use Rattle.sets.proofs.parts.put_part.Goals as goal

@@ -1,4 +1,4 @@
-use Rattle.std.proofs.Common.{◌≡◌, ℕ, List, subst, rules}
+use Rattle.std.proofs.Common.{ℕ, List, subst, rules}
 use Rattle.sets.proofs.Written.{Headed, headed, length-there, payload-told}
 use Rattle.sets.proofs.parts.put_payload.Goals as goal
 

@@ -1,4 +1,4 @@
-use Rattle.std.proofs.Common.{◌≡◌, ℕ, ◌+◌, ◌<◌, List, length, drop, sym, ap, ◌∙◌, arith}
+use Rattle.std.proofs.Common.{ℕ, ◌+◌, ◌<◌, List, length, drop, sym, ap, ◌∙◌, arith}
 use Rattle.layouts.specs.Frames.{under}
 use Rattle.units.specs.Units.{and_then}
 use Rattle.sets.specs.Parts.{more, sized}

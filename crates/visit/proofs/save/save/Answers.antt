@@ -1,6 +1,6 @@
-use Rattle.std.proofs.Common.{◌≡◌, ℕ, ◌<◌, List, length, sym, ap, ◌∙◌, arith}
+use Rattle.std.proofs.Common.{sym, ap, arith}
 use Rattle.book.specs.Models.{messages}
-use Rattle.visit.proofs.Saved.{Sized, sized-as, never-none, saved-none, saved-short, saved-put, never-unwritten}
+use Rattle.visit.proofs.Saved.{sized-as, never-none, saved-none, saved-short, saved-put, never-unwritten}
 use Rattle.visit.proofs.save.save.Goals as goal
 
 pub returns-in_default : goal.returns-in_default

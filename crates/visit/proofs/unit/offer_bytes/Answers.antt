@@ -1,4 +1,4 @@
-use Rattle.std.proofs.Common.{length, arith}
+use Rattle.std.proofs.Common.{arith}
 use Rattle.units.specs.Readings.{coming}
 use Rattle.visit.proofs.Brought.{few-messages}
 use Rattle.visit.proofs.unit.offer_bytes.Goals as goal

@@ -1,4 +1,4 @@
-use Rattle.std.proofs.Common.{◌≡◌, ℕ, Bool, List, sym, ap, ◌∙◌, subst, arith}
+use Rattle.std.proofs.Common.{ℕ, Bool, List, sym, ap, ◌∙◌, subst, arith}
 use Rattle.book.specs.declared.answer.Answer.TheVariants.{Look as ToLook, CatchUp as ToCatchUp}
 use Rattle.book.specs.Book.{Asked, unit, look, catch_up, step, told_look, told_catch_up, reply}
 use Rattle.book.specs.Trust.{Fit}

@@ -1,4 +1,4 @@
-use Rattle.std.proofs.Common.{◌≡◌, ℕ, List, length, get_or, sym, ap, ◌∙◌, arith, length-set}
+use Rattle.std.proofs.Common.{◌≡◌, ℕ, get_or, ap, ◌∙◌, arith, length-set}
 use Rattle.book.proofs.Trusts.{trusted}
 use Rattle.visit.specs.declared.serve.Request.{Request}
 use Rattle.visit.specs.Calls.{asks, holds}
