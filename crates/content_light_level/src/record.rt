@@ -22,7 +22,7 @@ impl Record for ContentLightLevel {
 
     ghost short = { λ vs h. omega (arith, content-takes vs h) };
 
-    ghost limited = { first_of (Prim.search rules, Prim.grind (arith, Self.row.coded.inj)) };
+    ghost limited = { Prim.search rules };
 
     fn decode(mut reader: Reader) -> Result<ContentLightLevel, FieldFault> {
         let greatest = reader.bits(16)? as u16;

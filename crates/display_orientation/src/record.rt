@@ -24,7 +24,7 @@ impl Body for DisplayOrientation {
 
     ghost short = { content-takes };
 
-    ghost limited = { first_of (Prim.search rules, Prim.grind (arith, Self.row.coded.inj)) };
+    ghost limited = { Prim.search rules };
 
     fn decode(mut reader: Reader) -> Result<DisplayOrientation, FieldFault> {
         let horizontal_flip = reader.flag()?;

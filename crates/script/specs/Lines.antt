@@ -120,6 +120,10 @@ numbered name call text = on_number (number (word text)) (number_wanted name) (�
 abbrev pub unit_of : List ℕ → (Bool → List ℕ → Saying) → Saying
 unit_of text call = cond (bytes_eq (word text) (codes "escaped")) (on_reading (hex.read (behind text)) (call true)) (on_reading (hex.read text) (call false))
 
+-- `frame HEX` or `frame escaped HEX`
+abbrev pub frame_of : List ℕ → Saying
+frame_of text = unit_of text frame
+
 -- an answer tells the unit that a text holds, whatever call it is for, unless memory fails
 abbrev pub TellsUnit : ((Bool → List ℕ → Saying) → Saying) → Result UnitBytes LineFault → Type 0
 TellsUnit text (Ok u) = (call : Bool → List ℕ → Saying) → text call ≡ call u.escaped (vec_items u.bytes)
@@ -136,7 +140,7 @@ call_of (Some name.Look) w text = look_of text
 call_of (Some name.CatchUp) w text = closed text catch_up
 call_of (Some name.Scratch) w text = numbered name.Scratch scratch text
 call_of (Some name.Buffer) w text = numbered name.Buffer buffer text
-call_of (Some name.Frame) w text = unit_of text frame
+call_of (Some name.Frame) w text = frame_of text
 call_of (Some name.Show) w text = closed text show
 
 -- a line is skipped that has no word, or whose first word begins with #

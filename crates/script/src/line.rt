@@ -3,7 +3,7 @@ ghost use Rattle.std.specs.Prelude.{◌≡◌, ℕ, List, drop, Ok, Err, MatchRe
 ghost use Rattle.std.specs.Str.{IsCharBoundary};
 ghost use Rattle.script.specs.Words.{word as word_of};
 ghost use Rattle.script.specs.Hex.{read, bytes as bytes_of};
-ghost use Rattle.script.specs.Lines.{Saying, Says, named, number, type_number, on_reading, closed, picture_of, message_of, look_of, unit_of, TellsUnit, scratch, buffer, unit, frame, numbered, call_of, saying, NoCallSkipped, MessagesWritten};
+ghost use Rattle.script.specs.Lines.{Saying, Says, named, number, type_number, on_reading, closed, picture_of, message_of, look_of, unit_of, frame_of, TellsUnit, scratch, buffer, unit, frame, numbered, call_of, saying, NoCallSkipped, MessagesWritten};
 
 use crate::hex::{HexFault, decode};
 use crate::words::first_word;
@@ -292,7 +292,7 @@ fn unit<'a>(heap: Global, text: &'a str) -> Result<Line, LineFault<'a>>
 
 // `frame HEX` or `frame escaped HEX`
 fn frame<'a>(heap: Global, text: &'a str) -> Result<Line, LineFault<'a>>
-    ensures { Says (unit_of text.now frame) result }
+    ensures { Says (frame_of text.now) result }
 {
     match unit_of(heap, text) {
         Ok(unit) => Ok(Line::Frame(unit)),

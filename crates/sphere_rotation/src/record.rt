@@ -23,7 +23,7 @@ impl Body for SphereRotation {
 
     ghost short = { content-takes };
 
-    ghost limited = { first_of (Prim.search rules, Prim.grind (arith, Self.row.coded.inj)) };
+    ghost limited = { Prim.search rules };
 
     fn decode(mut reader: Reader) -> Result<SphereRotation, FieldFault> {
         let persistence = reader.flag()?;

@@ -12,6 +12,7 @@ use Rattle.book.specs.Book.{saved}
 use Rattle.sets.specs.declared.parts.Size.{Size}
 use Rattle.sets.specs.Parts.{more, sized, sizes, behind, written, writes, closed}
 use Rattle.sets.proofs.Written.{length_whole}
+use Rattle.book.proofs.Replays.{parts-limited, parts-short}
 
 -- ---- all kinds' parts are their messages
 
@@ -219,3 +220,6 @@ never-unwritten ks m s b l z some room e =
     let f : None ≡ Some (length (unit_bytes (messages ks m))) = e ∙ ap (λ x. x.0) (unit-put ks m s b l z some room) in
     let y : ◌≡◌ {A = ℕ} 0 1 = cc in
     omega arith
+
+-- what is in force in a visit can be saved
+pub ruleset savable = (parts-limited, parts-short)

@@ -92,6 +92,7 @@ impl<S: Set> Visit<S> {
 
     // Saves what is in force to the buffer's front, as a unit that brings it back: its length, and the number of its
     // messages.
+    #[tactic(auto, using(crate::proofs::Saved::savable))]
     pub fn catch_up(&self, buffer: &mut [u8]) -> Result<(usize, usize), Refusal>
         ensures answer { result ≡ (told_catch_up S.List.Kinds.models (book S.List.Kinds self.now) buffer.old).0 }
         ensures bytes { buffer.new ≡ (told_catch_up S.List.Kinds.models (book S.List.Kinds self.now) buffer.old).1 }
