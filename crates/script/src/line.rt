@@ -3,7 +3,7 @@ ghost use Rattle.std.specs.Prelude.{◌≡◌, ℕ, List, drop, Ok, Err, MatchRe
 ghost use Rattle.std.specs.Str.{IsCharBoundary};
 ghost use Rattle.script.specs.Words.{word as word_of};
 ghost use Rattle.script.specs.Hex.{read, bytes as bytes_of};
-ghost use Rattle.script.specs.Lines.{Saying, Says, named, number, type_number, on_reading, closed, picture_of, message_of, look_of, unit_of, frame_of, TellsUnit, scratch, buffer, unit, frame, numbered, call_of, saying, NoCallSkipped, MessagesWritten};
+ghost use Rattle.script.specs.Lines.{Saying, Says, named, number, type_number, on_reading, closed, picture_of, message_of, look_of, unit_of, frame_of, TellsUnit, scratch, buffer, unit, numbered, call_of, saying, NoCallSkipped, MessagesWritten};
 
 use crate::hex::{HexFault, decode};
 use crate::words::first_word;
