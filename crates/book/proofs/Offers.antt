@@ -16,11 +16,6 @@ after-lift f a (granted x) = refl
 after-lift f a passed = refl
 after-lift f a (refused e) = refl
 
-pub lift-granted : {A B : Type 0} (f : A → B) (o : Outcome A) (y : B) → lift f o ≡ granted y → (x : A) × (o ≡ granted x)
-lift-granted f (granted x) y e = (x, refl)
-lift-granted f passed y e = absurd (let z : ◌≡◌ {A = ℕ} 0 1 = cc in omega arith)
-lift-granted f (refused g) y e = absurd (let z : ◌≡◌ {A = ℕ} 0 1 = cc in omega arith)
-
 module _ (k : Model) (ks : Models) (m : Meanings (first k ks)) (t : ℕ) (p : List ℕ) where
   pub here : eqb t k.number ≡ true → after m (offers (first k ks) m t p) ≡ (after m.0 (k.offered m.0 p), m.1)
   here e = ap (after m) (cond-true (eqb t k.number) _ _ e) ∙ after-lift {B = Meanings (first k ks)} (λ n. (n, m.1)) m.0 (k.offered m.0 p)

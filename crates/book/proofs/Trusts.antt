@@ -8,6 +8,7 @@ use Rattle.kinds.specs.Outcome.{granted, after as after_offer, told, looked}
 use Rattle.units.specs.Units.{AllLimited, unit_bytes, placed}
 use Rattle.units.specs.Fills.{room}
 use Rattle.units.proofs.Judgements.{unit-judged, lawful}
+use Rattle.book.specs.declared.answer.Saved.{Saved}
 use Rattle.book.specs.declared.fault.Refusal.{Refusal}
 use Rattle.book.specs.declared.fault.Refusal.TheVariants.{NoPicture, Unit as OfUnit, ShortBuffer}
 use Rattle.book.specs.Models.{Models, empty, first, both, Meanings, Sounds, Lawfuls, nothing, turns, part_of, messages, listed, Proper}
@@ -22,12 +23,12 @@ use Rattle.book.proofs.Leads.{led-run, led-alike, same-part, opened, opened-run}
 
 -- ---- what a granted catch-up says
 
-length_of : Result (ℕ × ℕ) Refusal → ℕ
-length_of (Ok p) = p.0
+length_of : Result Saved Refusal → ℕ
+length_of (Ok s) = s.len
 length_of (Err f) = 0
 
-count_of : Result (ℕ × ℕ) Refusal → ℕ
-count_of (Ok p) = p.1
+count_of : Result Saved Refusal → ℕ
+count_of (Ok s) = s.messages
 count_of (Err f) = 0
 
 -- the bytes are those of a unit of the messages
@@ -37,7 +38,7 @@ pub record SavedAs (ms : List Message) (n count : ℕ) (out : List ℕ) : Type 0
   pub many : count ≡ length ms
 
 saved-if : (fit : Bool) (ms : List Message) (buffer out : List ℕ) (n count : ℕ) →
-    ◌≡◌ {A = Result (ℕ × ℕ) Refusal × List ℕ} (cond fit (Ok (length (unit_bytes ms), length ms), fronted (unit_bytes ms) buffer) (Err ShortBuffer, buffer)) (Ok (n, count), out) → SavedAs ms n count out
+    ◌≡◌ {A = Result Saved Refusal × List ℕ} (cond fit (Ok (record { len = length (unit_bytes ms); messages = length ms }), fronted (unit_bytes ms) buffer) (Err ShortBuffer, buffer)) (Ok (record { len = n; messages = count }), out) → SavedAs ms n count out
 unfolding length_of count_of
 saved-if true ms buffer out n count e =
     let len : length (unit_bytes ms) ≡ n = ap (λ r. length_of r.0) e in
@@ -47,14 +48,14 @@ saved-if true ms buffer out n count e =
       long = sym len;
       many = sym (ap (λ r. count_of r.0) e);
     }
-saved-if false ms buffer out n count e = absurd (let f : Err ShortBuffer ≡ Ok (n, count) = ap (λ r. r.0) e in let z : ◌≡◌ {A = ℕ} 0 1 = cc in omega arith)
+saved-if false ms buffer out n count e = absurd (let f : Err ShortBuffer ≡ Ok (record { len = n; messages = count }) = ap (λ r. r.0) e in let z : ◌≡◌ {A = ℕ} 0 1 = cc in omega arith)
 
-begun-if : (begun : Bool) (x : Result (ℕ × ℕ) Refusal × List ℕ) (buffer out : List ℕ) (n count : ℕ) → cond begun x (Err NoPicture, buffer) ≡ (Ok (n, count), out) → (begun ≡ true) × (x ≡ (Ok (n, count), out))
+begun-if : (begun : Bool) (x : Result Saved Refusal × List ℕ) (buffer out : List ℕ) (n count : ℕ) → cond begun x (Err NoPicture, buffer) ≡ (Ok (record { len = n; messages = count }), out) → (begun ≡ true) × (x ≡ (Ok (record { len = n; messages = count }), out))
 begun-if true x buffer out n count e = (refl, e)
-begun-if false x buffer out n count e = absurd (let f : Err NoPicture ≡ Ok (n, count) = ap (λ r. r.0) e in let z : ◌≡◌ {A = ℕ} 0 1 = cc in omega arith)
+begun-if false x buffer out n count e = absurd (let f : Err NoPicture ≡ Ok (record { len = n; messages = count }) = ap (λ r. r.0) e in let z : ◌≡◌ {A = ℕ} 0 1 = cc in omega arith)
 
 module _ (ks : Models) (b : Book ks) (n count : ℕ) (bytes : List ℕ) (h : Saves ks b n count bytes) where
-  parts : (b.0 ≡ true) × (saved (messages ks b.1) h.0 ≡ (Ok (n, count), h.1))
+  parts : (b.0 ≡ true) × (saved (messages ks b.1) h.0 ≡ (Ok (record { len = n; messages = count }), h.1))
   parts = begun-if b.0 (saved (messages ks b.1) h.0) h.0 h.1 n count h.2
 
   pub saves-begun : b.0 ≡ true
@@ -74,7 +75,7 @@ module _ (ks : Models) (b : Book ks) (n count : ℕ) (bytes : List ℕ) (h : Sav
 
 -- ---- loading messages that are all granted
 
-turns-nothing : (ks : Models) → Lawfuls ks → (mark : Bool) → turns ks (nothing ks) mark ≡ nothing ks
+pub turns-nothing : (ks : Models) → Lawfuls ks → (mark : Bool) → turns ks (nothing ks) mark ≡ nothing ks
 turns-nothing empty l mark = refl
 turns-nothing (first k ks) l mark = rw (l.0.idle mark, turns-nothing ks l.1 mark)
 turns-nothing (both ks js) l mark = rw (turns-nothing ks l.0 mark, turns-nothing js l.1 mark)

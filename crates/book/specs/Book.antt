@@ -9,6 +9,7 @@ use Rattle.units.specs.Fills.{filled, unfilled}
 use Rattle.units.specs.Units.{unit_bytes}
 use Rattle.book.specs.declared.answer.Answer.{Answer}
 use Rattle.book.specs.declared.answer.Answer.TheVariants.{Done, Message as ToMessage, Unit as ToUnit, Look as ToLook, CatchUp as ToCatchUp}
+use Rattle.book.specs.declared.answer.Saved.{Saved}
 use Rattle.book.specs.declared.answer.Tally.{Tally}
 use Rattle.book.specs.declared.fault.Refusal.{Refusal}
 use Rattle.book.specs.declared.fault.Refusal.TheVariants.{NoPicture, Unit, Offer, ShortBuffer}
@@ -69,11 +70,11 @@ abbrev pub told_look : (ks : Models) → Book ks → ℕ → ℕ → List ℕ �
 told_look ks b t n buffer = cond b.0 (handed (looked (part_of ks b.1 t) n buffer)) (Err NoPicture, buffer)
 
 -- messages saved to a buffer's front as a unit: its length and their number, and what the buffer holds then
-abbrev pub saved : List Message → List ℕ → Result (ℕ × ℕ) Refusal × List ℕ
-saved ms buffer = cond (nat_le (length (unit_bytes ms)) (length buffer)) (Ok (length (unit_bytes ms), length ms), fronted (unit_bytes ms) buffer) (Err ShortBuffer, buffer)
+abbrev pub saved : List Message → List ℕ → Result Saved Refusal × List ℕ
+saved ms buffer = cond (nat_le (length (unit_bytes ms)) (length buffer)) (Ok (record { len = length (unit_bytes ms); messages = length ms }), fronted (unit_bytes ms) buffer) (Err ShortBuffer, buffer)
 
 -- what a catch-up answers, and what its buffer holds then: every kind's part, in the set's order
-abbrev pub told_catch_up : (ks : Models) → Book ks → List ℕ → Result (ℕ × ℕ) Refusal × List ℕ
+abbrev pub told_catch_up : (ks : Models) → Book ks → List ℕ → Result Saved Refusal × List ℕ
 told_catch_up ks b buffer = cond b.0 (saved (messages ks b.1) buffer) (Err NoPicture, buffer)
 
 -- what any call answers

@@ -25,7 +25,7 @@ after ks cs = run ks (fresh ks) cs
 
 -- a visit saves n bytes, of so many messages: they are `bytes`
 abbrev pub Saves : (ks : Models) → Book ks → ℕ → ℕ → List ℕ → Type 0
-Saves ks b n count bytes = (buffer : List ℕ) × (out : List ℕ) × (told_catch_up ks b buffer ≡ (Ok (n, count), out)) × (take n out ≡ bytes)
+Saves ks b n count bytes = (buffer : List ℕ) × (out : List ℕ) × (told_catch_up ks b buffer ≡ (Ok (record { len = n; messages = count }), out)) × (take n out ≡ bytes)
 
 -- the calls that load bytes: one picture, marked or not, and a unit of clean bytes
 abbrev pub loading : Bool → List ℕ → List ℕ → List Asked
@@ -33,7 +33,7 @@ loading mark bytes scratch = picture mark ∷ (unit bytes false scratch ∷ [])
 
 -- n messages, all of them granted
 abbrev pub all_granted : ℕ → Tally
-all_granted n = record { counts = (n, 0, 0); refusal = None }
+all_granted n = record { granted = n; refused = 0; passed = 0; refusal = None }
 
 pub record Trusted (ks : Models) : Type 0 where
   -- what is in force of each kind is what its own events lead it to, from nothing in force

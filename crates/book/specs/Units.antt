@@ -40,7 +40,7 @@ offered_from ks m (Err f) = m
 
 -- nothing told yet
 abbrev pub untold : Tally
-untold = record { counts = (0, 0, 0); refusal = None }
+untold = record { granted = 0; refused = 0; passed = 0; refusal = None }
 
 -- the refusal that came first
 abbrev pub earlier : Option MessageFault → MessageFault → Option MessageFault
@@ -49,9 +49,9 @@ earlier (Some e) f = Some e
 
 -- a tally with what a message at a place was told: one more granted, refused or passed
 abbrev pub noted : Tally → ℕ → Result Offered OfferFault → Tally
-noted a at (Ok Granted) = record { counts = (a.counts.0 + 1, a.counts.1, a.counts.2); refusal = a.refusal }
-noted a at (Err f) = record { counts = (a.counts.0, a.counts.1 + 1, a.counts.2); refusal = earlier a.refusal (record { place = at; fault = f }) }
-noted a at (Ok Passed) = record { counts = (a.counts.0, a.counts.1, a.counts.2 + 1); refusal = a.refusal }
+noted a at (Ok Granted) = record { granted = a.granted + 1; refused = a.refused; passed = a.passed; refusal = a.refusal }
+noted a at (Err f) = record { granted = a.granted; refused = a.refused + 1; passed = a.passed; refusal = earlier a.refusal (record { place = at; fault = f }) }
+noted a at (Ok Passed) = record { granted = a.granted; refused = a.refused; passed = a.passed + 1; refusal = a.refusal }
 
 -- a tally with what messages were told, each judged in turn
 abbrev pub tallied : (ks : Models) → Meanings ks → Tally → List (ℕ × Message) → Tally

@@ -5,8 +5,17 @@ use kinds::fault::Offered;
 // What became of a unit's messages: how many were granted, refused and passed, and the first refusal.
 #[derive(Clone, Copy)]
 pub struct Tally {
-    pub counts: (usize, usize, usize),
+    pub granted: usize,
+    pub refused: usize,
+    pub passed: usize,
     pub refusal: Option<MessageFault>,
+}
+
+// How many bytes a catch-up has, and of how many messages it is.
+#[derive(Clone, Copy)]
+pub struct Saved {
+    pub len: usize,
+    pub messages: usize,
 }
 
 // The answer to any call; a picture and a clear are always done.
@@ -16,6 +25,5 @@ pub enum Answer {
     Message(Result<Offered, Refusal>),
     Unit(Result<Tally, Refusal>),
     Look(Result<usize, Refusal>),
-    // the length of the catch-up, and the number of its messages
-    CatchUp(Result<(usize, usize), Refusal>),
+    CatchUp(Result<Saved, Refusal>),
 }

@@ -4,7 +4,7 @@ ghost use Rattle.book.specs.declared.fault.Refusal.TheVariants.{Offer as OfferCa
 ghost use Rattle.book.specs.Faults.{look_refusal, refusal_number, refusal_layer, refusal_place};
 
 use kinds::fault::{LookFault, OfferFault};
-use layouts::fault::{Fault, Layer};
+use layouts::fault::{Fault, Layer, Told};
 use std::fmt;
 use units::fault::UnitFault;
 
@@ -75,21 +75,17 @@ impl Fault for Refusal {
 
     fn layer(&self) -> Layer {
         match *self {
-            Refusal::NoPicture => Layer::Visit,
             Refusal::Unit(unit) => unit.layer(),
             Refusal::Offer(offer) => offer.layer(),
-            Refusal::Missing => Layer::Visit,
-            Refusal::ShortBuffer => Layer::Visit,
+            Refusal::NoPicture | Refusal::Missing | Refusal::ShortBuffer => Layer::Visit,
         }
     }
 
     fn place(&self) -> usize {
         match *self {
-            Refusal::NoPicture => 0,
             Refusal::Unit(unit) => unit.place(),
             Refusal::Offer(offer) => offer.place(),
-            Refusal::Missing => 0,
-            Refusal::ShortBuffer => 0,
+            Refusal::NoPicture | Refusal::Missing | Refusal::ShortBuffer => 0,
         }
     }
 }
@@ -97,9 +93,6 @@ impl Fault for Refusal {
 // The number, the layer and the place, as in `refused 9 payload 2`.
 impl fmt::Display for Refusal {
     fn fmt<W: fmt::Write>(&self, f: &mut fmt::Formatter<W>) -> fmt::Result {
-        let number = self.number();
-        let layer = self.layer();
-        let place = self.place();
-        write!(f, "refused {number} {layer} {place}")
+        write!(f, "refused {}", Told(*self))
     }
 }

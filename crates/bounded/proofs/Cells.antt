@@ -1,9 +1,12 @@
 -- Places of which the first ones hold a value each: how many, which, one more, and that the values tell the places.
-use Rattle.std.proofs.Common.{◌≡◌, ℕ, zero, suc, ◌<◌, ◌≤◌, Bool, true, false, cond, ltb, List, [], ◌∷◌, ◌++◌, length, get_or, drop, set, replicate, Some, None, Option, sym, refl, ap, ◌∙◌, arith}
+use Rattle.std.proofs.Common.{◌≡◌, ℕ, zero, suc, ◌+◌, ◌<◌, ◌≤◌, Bool, true, false, cond, ltb, List, [], ◌∷◌, ◌++◌, length, get_or, drop, set, replicate, Some, None, Option, sym, refl, ap, ◌∙◌, add-one, arith, length-set, length-drop}
 use mathlib.Core.Bool.{Bool-set}
 use mathlib.Core.HLevel.{is_prop→PathP}
 use native.Mathlib.Nat.{ℕ_set}
+use lib.ListN.{length-replicate}
+use Rattle.std.proofs.Math.Seq.{drop-nil}
 use Rattle.std.proofs.lemmas.Bool.{lt-ltb}
+use Rattle.std.proofs.lemmas.List.{get_or_default, get_or_past}
 use Rattle.std.specs.List.{slice_get}
 use Rattle.layouts.specs.Bits.{bit}
 use Rattle.bounded.specs.declared.Bounded.{Bounded}
@@ -86,25 +89,24 @@ held_same (suc n) (suc m) (Some x ∷ ps) (Some y ∷ qs) f g l e =
     let t : held ps ≡ held qs = cc in
     λ i. Some (h i) ∷ held_same n m ps qs f g (omega arith) t i
 
-fills-few : {A : Type 0} (n : ℕ) (ps : List (Option A)) → fills n ps ≡ true → n ≤ length ps
-unfolding fills
-fills-few zero ps f = omega arith
-fills-few (suc n) [] f = false-true f
-fills-few (suc n) (None ∷ ps) f = false-true f
-fills-few (suc n) (Some x ∷ ps) f = omega (arith, fills-few n ps f)
+pub held-short : {A : Type 0} (ps : List (Option A)) → length (held ps) ≤ length ps
+unfolding held
+held-short [] = omega arith
+held-short (None ∷ ps) = omega (arith, held-short ps)
+held-short (Some x ∷ ps) = omega (arith, held-short ps)
 
 -- ---- bounded lists
 
 pub items-few : {A : Type 0} {N : ℕ} (b : Bounded A N) → length (items b) ≤ N
-items-few b = omega (arith, length-held b.len b.places.cells b.filled, fills-few b.len b.places.cells b.filled, b.whole)
+items-few b = omega (arith, held-short b.places, b.whole)
 
 -- a bounded list is told by its values
 pub bounded-same : {A : Type 0} {N : ℕ} (a b : Bounded A N) → items a ≡ items b → a ≡ b
 bounded-same {A} {N} a b e =
-    let cells : a.places.cells ≡ b.places.cells = held_same a.len b.len a.places.cells b.places.cells a.filled b.filled (a.whole ∙ sym b.whole) e in
-    let len : a.len ≡ b.len = sym (length-held a.len a.places.cells a.filled) ∙ ap length e ∙ length-held b.len b.places.cells b.filled in
+    let cells : a.places ≡ b.places = held_same a.len b.len a.places b.places a.filled b.filled (a.whole ∙ sym b.whole) e in
+    let len : a.len ≡ b.len = sym (length-held a.len a.places a.filled) ∙ ap length e ∙ length-held b.len b.places b.filled in
     λ i. record {
-      places = record { cells = cells i };
+      places = cells i;
       len = len i;
       whole = is_prop→PathP (λ j. length (cells j) ≡ N) (λ j. ℕ_set (length (cells j)) N) a.whole b.whole i;
       filled = is_prop→PathP (λ j. fills (len j) (cells j) ≡ true) (λ j. Bool-set (fills (len j) (cells j)) true) a.filled b.filled i;
@@ -119,3 +121,45 @@ pub drop_nth : {A : Type 0} (xs : List A) (i : ℕ) (x : A) → slice_get xs i �
 drop_nth [] i x e = let z : ◌≡◌ {A = ℕ} 0 1 = cc in absurd (omega arith)
 drop_nth (y ∷ ys) zero x e = let h : y ≡ x = cc in ap (λ z. z ∷ ys) h
 drop_nth (y ∷ ys) (suc i) x e = drop_nth ys i x e
+
+-- ---- going through a list by places
+
+pub here-within : {A : Type 0} (xs : List A) (i : ℕ) (x : A) → Some x ≡ slice_get xs i → i < length xs
+here-within [] i x e = let z : ◌≡◌ {A = ℕ} 0 1 = cc in absurd (omega arith)
+here-within (y ∷ ys) zero x e = omega arith
+here-within (y ∷ ys) (suc i) x e = omega (arith, here-within ys i x e)
+
+pub drop-here : {A : Type 0} (xs : List A) (i : ℕ) (x : A) → Some x ≡ slice_get xs i → drop i xs ≡ x ∷ drop (i + 1) xs
+drop-here xs i x e = drop_nth xs i x (sym e) ∙ ap (λ n. x ∷ drop n xs) (sym (add-one i))
+
+pub drop-past : {A : Type 0} (xs : List A) (i : ℕ) → None ≡ slice_get xs i → drop i xs ≡ []
+drop-past [] i e = drop-nil i
+drop-past (y ∷ ys) zero e = let z : ◌≡◌ {A = ℕ} 0 1 = cc in absurd (omega arith)
+drop-past (y ∷ ys) (suc i) e = drop-past ys i e
+
+-- the next value, or the end
+pub ruleset coming_next = (drop-here, here-within, drop-past, held-short, length-drop)
+
+-- ---- what the methods say
+
+-- what is read at a place, and beyond them
+pub place-in : {A : Type 0} (ps : List (Option A)) (n i : ℕ) (d : Option A) → fills n ps ≡ true → i < length ps → get_or ps i d ≡ slice_get (held ps) i
+place-in ps n i d f h = get_or_default ps i d None h ∙ held_at n ps i f
+
+pub place-past : {A : Type 0} (ps : List (Option A)) (n i : ℕ) → fills n ps ≡ true → length ps ≤ i → None ≡ slice_get (held ps) i
+place-past ps n i f h = sym (get_or_past ps i None h) ∙ held_at n ps i f
+
+-- how many are held
+pub ruleset counted = (length-held, held-short)
+
+-- which one stands at a place
+pub ruleset placed = (place-in, place-past)
+
+-- none in places that are all free
+pub ruleset free = (length-replicate, held_none, fills-none)
+
+-- one more behind those that are held
+pub fills-added : {A : Type 0} (n : ℕ) (ps : List (Option A)) (x : A) → fills n ps ≡ true → n < length ps → fills (n + 1) (set ps n (Some x)) ≡ true
+fills-added n ps x f h = (λ i. fills (add-one n i) (set ps n (Some x))) ∙ fills-push n ps x f h
+
+pub ruleset added = (length-held, held-push, fills-added, length-set)

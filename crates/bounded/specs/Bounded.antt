@@ -5,4 +5,4 @@ use Rattle.bounded.specs.Places.{held}
 
 -- its values, in order
 abbrev pub items : {A : Type 0} {N : ℕ} → Bounded A N → List A
-items b = held b.places.cells
+items b = held b.places

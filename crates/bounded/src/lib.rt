@@ -6,36 +6,22 @@ ghost use Rattle.bounded.specs.Places.{fills};
 
 use std::alloc::AllocError;
 
+mod edits;
 mod methods;
 mod reads;
+pub mod values;
 
-// The places of a bounded list: a struct of its own, since no array is lent beside a ghost field.
-struct Places<T, const N: usize> {
-    cells: [Option<T>; N],
-}
-
-// The first `len` places hold a value each, and the others none.
+// The first `len` places hold a value each, and the others none. The library's `ArrayVec` is not `Copy`, and asks for
+// a blank value in each free place, which a packing and a region have none of.
+#[derive(Copy, PartialEq, Eq, Debug)]
 pub struct Bounded<T, const N: usize> {
-    places: Places<T, N>,
+    places: [Option<T>; N],
     len: usize,
-    ghost whole: { length places.cells ≡ N },
-    ghost filled: { fills len places.cells ≡ true },
+    ghost whole: { length places ≡ N },
+    ghost filled: { fills len places ≡ true },
 }
 
-impl<T: Copy, const N: usize> Copy for Places<T, N> {}
-
-impl<T: Copy, const N: usize> Clone for Places<T, N> {
-    ghost is_clone = { λ x y. y ≡ x };
-
-    ghost is_infallible = { λ _. Unit {0} };
-
-    fn clone(&self) -> Result<Places<T, N>, AllocError> {
-        Ok(*self)
-    }
-}
-
-impl<T: Copy, const N: usize> Copy for Bounded<T, N> {}
-
+// By hand: over a ghost field, `Clone` is derived only for what is `Copy` at every `T`.
 impl<T: Copy, const N: usize> Clone for Bounded<T, N> {
     ghost is_clone = { λ x y. y ≡ x };
 

@@ -1,4 +1,5 @@
 // Type 144, content light level, as a kind: it always stays, and another one is refused.
+ghost use Rattle.std.specs.Prelude.{refl};
 ghost use Rattle.content_light_level.specs.ContentLightLevel.{numbers as level_numbers};
 ghost use Rattle.content_light_level.specs.Rules.{level_rules};
 ghost use Rattle.content_light_level.specs.Rulings.{level_ruled, level_proper};
@@ -11,25 +12,17 @@ use records::fault::PayloadFault;
 use records::record::Record;
 
 impl Content for ContentLightLevel {
+    ghost TYPE = { 144 };
+
     const TYPE: u32 = 144;
+
+    ghost GREATEST = { 6 };
 
     const GREATEST: usize = 6;
 
     ghost rules = { level_rules };
 
-    ghost ruled = { level_ruled };
-
     ghost numbers = { level_numbers };
-
-    ghost proper = { level_proper };
-
-    fn type_number() -> u32 {
-        Self::TYPE
-    }
-
-    fn greatest_length() -> usize {
-        Self::GREATEST
-    }
 
     fn read(payload: &[u8]) -> Result<Option<ContentLightLevel>, PayloadFault> {
         let level = <ContentLightLevel as Record>::read(payload)?;
@@ -49,6 +42,14 @@ impl Content for ContentLightLevel {
     }
 
     fn agrees(&self, held: &ContentLightLevel) -> bool {
-        held.greatest == self.greatest && held.greatest_average == self.greatest_average
+        self == held
     }
+
+    ghost ruled = { level_ruled };
+
+    ghost proper = { level_proper };
+
+    ghost typed = { refl };
+
+    ghost limited = { refl };
 }

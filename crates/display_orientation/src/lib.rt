@@ -34,7 +34,7 @@ impl DisplayOrientation {
 impl fmt::Display for DisplayOrientation {
     fn fmt<W: fmt::Write>(&self, f: &mut fmt::Formatter<W>) -> fmt::Result {
         let flips = self.flips();
-        let hundredths = self.rotation as u32 * 36_000 / 65_536;
+        let hundredths = u32::from(self.rotation) * 36_000 / 65_536;
         let degrees = hundredths / 100;
         let rest = hundredths % 100;
         let period = self.period.pictures;

@@ -30,21 +30,21 @@ impl Body for DisplayOrientation {
         let horizontal_flip = reader.flag()?;
         let vertical_flip = reader.flag()?;
         let rotation = reader.bits(16)? as u16;
-        let pictures = reader.ue_to(16_384)? as u16;
+        let period = Period::read(&mut reader)?;
         reader.extension()?;
         Ok(DisplayOrientation {
             horizontal_flip,
             vertical_flip,
             rotation,
-            period: Period { pictures },
+            period,
         })
     }
 
     fn encode(&self, writer: &mut Writer) {
         writer.flag(self.horizontal_flip);
         writer.flag(self.vertical_flip);
-        writer.bits(16, self.rotation as u32);
-        writer.ue(self.period.pictures as u32);
+        writer.bits(16, u32::from(self.rotation));
+        self.period.write(writer);
         writer.extension();
     }
 }

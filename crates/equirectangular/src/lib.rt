@@ -13,7 +13,7 @@ pub mod record;
 // Samples at the left and right side of the picture that the sphere does not need.
 #[derive(Clone, Copy, PartialEq, Eq, Debug)]
 pub struct GuardBand {
-    // what the samples are: 0 to 3 have a meaning, and 4 to 7 are reserved
+    // what the samples are: 0 to 3 have a meaning; a number, since 4 to 7 are reserved and kept as they are: `Reserved(n)` of an enum could hold a number that has a case of its own
     pub guard_type: u8,
     // in luma samples
     pub left_width: u8,
@@ -50,7 +50,7 @@ impl fmt::Display for Equirectangular {
             Some(band) => write!(f, "{band}")?,
             None => write!(f, "no guard bands")?,
         }
-        let persistence = self.persistence as u8;
+        let persistence = u8::from(self.persistence);
         write!(f, ", persistence {persistence}")
     }
 }

@@ -32,6 +32,7 @@ impl Body for Equirectangular {
         let persistence = reader.flag()?;
         let guarded = reader.flag()?;
         reader.bits(2)?;
+        // as in the other messages: a trait for all optional groups would be longer than this
         if !guarded {
             reader.close()?;
             return Ok(Equirectangular {
@@ -64,9 +65,9 @@ impl Body for Equirectangular {
             Some(band) => {
                 writer.flag(true);
                 writer.bits(2, 0);
-                writer.bits(3, band.guard_type as u32);
-                writer.bits(8, band.left_width as u32);
-                writer.bits(8, band.right_width as u32);
+                writer.bits(3, u32::from(band.guard_type));
+                writer.bits(8, u32::from(band.left_width));
+                writer.bits(8, u32::from(band.right_width));
             }
         }
         writer.close();

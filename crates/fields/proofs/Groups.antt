@@ -25,10 +25,6 @@ bit_is false = refl
 
 -- ---- one part after the other
 
-pub before-none : (r : Result (List ℕ) FieldFault) → r ≡ before [] r
-before-none (Ok vs) = refl
-before-none (Err e) = refl
-
 pub before-before : (xs ys : List ℕ) (r : Result (List ℕ) FieldFault) → before xs (before ys r) ≡ before (xs ++ ys) r
 before-before xs ys (Ok vs) = ap Ok (sym (append_assoc xs ys vs))
 before-before xs ys (Err e) = refl
@@ -65,6 +61,3 @@ module _ (n i : ℕ) (group : Layout → Layout) (l : Layout) (done : List ℕ) 
 
   pub times-err : (e : FieldFault) → ((k : Layout) → reads (group k) s ≡ Err e) → whole ≡ Err e
   times-err e f = now-one ∙ ap (before done) (f (times (n - (i + 1)) group l))
-
-pub times_none : (n i : ℕ) (group : Layout → Layout) (l : Layout) → n ≤ i → times (n - i) group l ≡ l
-times_none n i group l h = let e : n - i ≡ 0 = omega arith in ap (λ k. times k group l) e

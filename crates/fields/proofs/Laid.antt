@@ -101,19 +101,20 @@ patched-is b low n v h small =
 
 -- ---- what a writer does byte by byte
 
--- a turn of the loop: n of the bits that are left go into the byte at the place
-pub lay-more : (bs ds : List ℕ) (place n left b v : ℕ) → n ≤ left → place % 8 + n ≤ 8 → place + left ≤ 8 * length bs → 0 < n
-    → word 8 b ≡ laid (place % 8) (word n (v / 2 ^ (left - n))) (word 8 (get_or bs (place / 8) 0)) → ds ≡ set bs (place / 8) b
-    → laid (place + n) (word (left - n) v) (bits_of ds) ≡ laid place (word left v) (bits_of bs)
-lay-more bs ds place n left b v few inside room some e f =
-    let xs = word n (v / 2 ^ (left - n)) in
-    let long = length-word n (v / 2 ^ (left - n)) in
-    let here : 8 * (place / 8) + place % 8 ≡ place = omega arith in
-    let fit : place % 8 + length xs ≤ 8 = omega arith in
-    let one : bits_of ds ≡ laid place xs (bits_of bs) =
-    ap bits_of f ∙ bits-set bs (place / 8) (place % 8) b xs (omega arith) fit e ∙ ap (λ p. laid p xs (bits_of bs)) here in
-    let all : xs ++ word (left - n) v ≡ word left v = sym (word_split n (left - n) v) ∙ ap (λ w. word w v) (omega arith) in
-    (λ i. laid (place + sym long i) (word (left - n) v) (one i)) ∙ laid-laid place xs (word (left - n) v) (bits_of bs) (omega (arith, length-bits bs)) ∙ ap (λ l. laid place l (bits_of bs)) all
+-- a turn of the loop: the bits from `from` to `to` of those up to `end` go into the byte i
+pub lay-more : (bs ds : List ℕ) (i from to end b v : ℕ) → i < length bs → 8 * i ≤ from → from ≤ to → to ≤ 8 * i + 8 → to ≤ end → end ≤ 8 * length bs
+    → word 8 b ≡ laid (from - 8 * i) (word (to - from) (v / 2 ^ (end - to))) (word 8 (get_or bs i 0)) → ds ≡ set bs i b
+    → laid to (word (end - to) v) (bits_of ds) ≡ laid from (word (end - from) v) (bits_of bs)
+lay-more bs ds i from to end b v inside lower some upper few room e f =
+    let xs = word (to - from) (v / 2 ^ (end - to)) in
+    let long = length-word (to - from) (v / 2 ^ (end - to)) in
+    let here : 8 * i + (from - 8 * i) ≡ from = omega arith in
+    let behind : to ≡ from + length xs = omega arith in
+    let one : bits_of ds ≡ laid from xs (bits_of bs) =
+    ap bits_of f ∙ bits-set bs i (from - 8 * i) b xs inside (omega arith) e ∙ ap (λ p. laid p xs (bits_of bs)) here in
+    let sum : to - from + (end - to) ≡ end - from = omega arith in
+    let all : xs ++ word (end - to) v ≡ word (end - from) v = sym (word_split (to - from) (end - to) v) ∙ ap (λ w. word w v) sum in
+    (λ j. laid (behind j) (word (end - to) v) (one j)) ∙ laid-laid from xs (word (end - to) v) (bits_of bs) (omega (arith, length-bits bs)) ∙ ap (λ l. laid from l (bits_of bs)) all
 
 pub lay-none : (bs : List ℕ) (place left v : ℕ) → left ≤ 0 → laid place (word left v) (bits_of bs) ≡ bits_of bs
 unfolding word

@@ -44,15 +44,28 @@ lays-place (field c l) (v ∷ vs) s h =
     lays-place (l v) vs t (omega arith) ∙ omega arith
 lays-place (judge n v l) vs s h = lays-place l vs s h
 
+-- the loan stays the same one
+pub put-loan : (bs : List Bool) (s : Sheet) → (put bs s).loan ≡ s.loan
+unfolding put
+put-loan bs s = refl
+
+pub lays-loan : (l : Layout) (vs : List ℕ) (s : Sheet) → (lays l vs s).loan ≡ s.loan
+lays-loan close vs s = put-loan (closing s.place) s
+lays-loan extension vs s = let t = put (word 1 0) s in put-loan (closing t.place) t ∙ put-loan (word 1 0) s
+lays-loan (reserved w l) vs s = lays-loan l vs (put (word w 0) s) ∙ put-loan (word w 0) s
+lays-loan (field c l) [] s = refl
+lays-loan (field c l) (v ∷ vs) s = lays-loan (l v) vs (put (coded c v) s) ∙ put-loan (coded c v) s
+lays-loan (judge n v l) vs s = lays-loan l vs s
+
 -- two parts that fit are one part
 put-put : (x y : List Bool) (s : Sheet) → s.place + length (x ++ y) ≤ min (length s.bits) 524280 → put y (put x s) ≡ put (x ++ y) s
 put-put x y s h =
     let n = length-append x y in
-    let t : Sheet = record { place = s.place + length x; bits = laid s.place x s.bits } in
+    let t : Sheet = record s { place = s.place + length x; bits = laid s.place x s.bits } in
     let long : length t.bits ≡ length s.bits = length-laid s.place x s.bits (omega arith) in
     let p : s.place + length x + length y ≡ s.place + length (x ++ y) = omega arith in
     ap (put y) (put-fits x s (omega arith)) ∙ put-fits y t (omega arith)
-    ∙ (λ i. record { place = p i; bits = laid-laid s.place x y s.bits (omega arith) i })
+    ∙ (λ i. record s { place = p i; bits = laid-laid s.place x y s.bits (omega arith) i })
     ∙ sym (put-fits (x ++ y) s h)
 
 -- field after field is the record in one part
@@ -113,13 +126,13 @@ bytes-from [] h = refl
 bytes-from (x ∷ xs) h = and_from (ltb x 256) (are_bytes xs) (lt-ltb x 256 (h 0)) (bytes-from xs (λ i. h (suc i)))
 
 -- a record that fits stands at the front
-pub written-front : (l : Layout) (vs before after : List ℕ) → Holds l vs → size l vs ≤ length before → size l vs ≤ 65535 → are_bytes before ≡ true → are_bytes after ≡ true
-    → bits_of after ≡ (lays l vs (record { place = 0; bits = bits_of before })).bits → after ≡ fronted (payload l vs) before
-written-front l vs before after h room short b a e =
-    let s : Sheet = record { place = 0; bits = bits_of before } in
+pub written-front : (l : Layout) (vs before after : List ℕ) (loan : ℕ) → Holds l vs → size l vs ≤ length before → size l vs ≤ 65535 → are_bytes before ≡ true → are_bytes after ≡ true
+    → bits_of after ≡ (lays l vs (record { place = 0; bits = bits_of before; loan = loan })).bits → after ≡ fronted (payload l vs) before
+written-front l vs before after loan h room short b a e =
+    let s : Sheet = record { place = 0; bits = bits_of before; loan = loan } in
     let n = length_whole l vs h in
     let fit : s.place + length (writes l 0 vs) ≤ min (length s.bits) 524280 = omega (arith, length-bits before) in
-    let whole : lays l vs s ≡ record { place = 0 + length (writes l 0 vs); bits = laid 0 (writes l 0 vs) (bits_of before) } = lays-put l vs s (omega arith) fit ∙ put-fits (writes l 0 vs) s fit in
+    let whole : lays l vs s ≡ record s { place = 0 + length (writes l 0 vs); bits = laid 0 (writes l 0 vs) (bits_of before) } = lays-put l vs s (omega arith) fit ∙ put-fits (writes l 0 vs) s fit in
     let k = length-payload l vs in
     let back : drop (0 + length (writes l 0 vs)) (bits_of before) ≡ bits_of (drop (length (payload l vs)) before) =
     let m : 0 + length (writes l 0 vs) ≡ 8 * length (payload l vs) = omega arith in

@@ -13,42 +13,42 @@ use Rattle.layouts.proofs.Closes.{closing-is}
 use Rattle.layouts.proofs.Fields.{top_of, word_of, word-zero}
 use Rattle.fields.proofs.Laid.{laid_none}
 
-pub put-fits : (bs : List Bool) (s : Sheet) → s.place + length bs ≤ min (length s.bits) 524280 → put bs s ≡ record { place = s.place + length bs; bits = laid s.place bs s.bits }
+pub put-fits : (bs : List Bool) (s : Sheet) → s.place + length bs ≤ min (length s.bits) 524280 → put bs s ≡ record s { place = s.place + length bs; bits = laid s.place bs s.bits }
 unfolding put
 put-fits bs s h =
     let p : min (s.place + length bs) (2 ^ 64 - 1) ≡ s.place + length bs = omega arith in
     let b = le-leb (s.place + length bs) (min (length s.bits) 524280) h in
-    λ i. record { place = p i; bits = cond (b i) (laid s.place bs s.bits) s.bits }
+    λ i. record s { place = p i; bits = cond (b i) (laid s.place bs s.bits) s.bits }
 
-pub put-past : (bs : List Bool) (s : Sheet) → min (length s.bits) 524280 < s.place + length bs → put bs s ≡ record { place = min (s.place + length bs) (2 ^ 64 - 1); bits = s.bits }
+pub put-past : (bs : List Bool) (s : Sheet) → min (length s.bits) 524280 < s.place + length bs → put bs s ≡ record s { place = min (s.place + length bs) (2 ^ 64 - 1); bits = s.bits }
 unfolding put
 put-past bs s h =
     let b = lt-leb (s.place + length bs) (min (length s.bits) 524280) h in
-    λ i. record { place = min (s.place + length bs) (2 ^ 64 - 1); bits = cond (b i) (laid s.place bs s.bits) s.bits }
+    λ i. record s { place = min (s.place + length bs) (2 ^ 64 - 1); bits = cond (b i) (laid s.place bs s.bits) s.bits }
 
 pub put-none : (s : Sheet) → s.place < 2 ^ 64 → put [] s ≡ s
 unfolding put
 put-none s h =
     let p : min (s.place + 0) (2 ^ 64 - 1) ≡ s.place = omega arith in
-    λ i. record { place = p i; bits = (go (leb (s.place + 0) (min (length s.bits) 524280))) i }
+    λ i. record s { place = p i; bits = (go (leb (s.place + 0) (min (length s.bits) 524280))) i }
   where
     go : (b : Bool) → cond b (laid s.place [] s.bits) s.bits ≡ s.bits
     go true = laid_none s.place s.bits
     go false = refl
 
 -- w bits that fit, and w bits that do not
-pub word_fits : (bytes after : List ℕ) (at w v : ℕ) → at + w ≤ 8 * length bytes → at + w ≤ 524280 → bits_of after ≡ laid at (word w v) (bits_of bytes)
-    → record { place = min (at + w) (2 ^ 64 - 1); bits = bits_of after } ≡ put (word w v) (record { place = at; bits = bits_of bytes })
-word_fits bytes after at w v room most e =
+pub word_fits : (bytes after : List ℕ) (at w v loan : ℕ) → at + w ≤ 8 * length bytes → at + w ≤ 524280 → bits_of after ≡ laid at (word w v) (bits_of bytes)
+    → record { place = min (at + w) (2 ^ 64 - 1); bits = bits_of after; loan = loan } ≡ put (word w v) (record { place = at; bits = bits_of bytes; loan = loan })
+word_fits bytes after at w v loan room most e =
     let n : length (word w v) ≡ w = length-word w v in
     let p : min (at + w) (2 ^ 64 - 1) ≡ at + length (word w v) = omega arith in
-    (λ i. record { place = p i; bits = e i }) ∙ sym (put-fits (word w v) (record { place = at; bits = bits_of bytes }) (omega (arith, length-bits bytes)))
+    (λ i. record { place = p i; bits = e i; loan = loan }) ∙ sym (put-fits (word w v) (record { place = at; bits = bits_of bytes; loan = loan }) (omega (arith, length-bits bytes)))
 
-pub word-past : (bytes : List ℕ) (at w v : ℕ) → min (8 * length bytes) 524280 < at + w
-    → record { place = min (at + w) (2 ^ 64 - 1); bits = bits_of bytes } ≡ put (word w v) (record { place = at; bits = bits_of bytes })
-word-past bytes at w v less =
+pub word-past : (bytes : List ℕ) (at w v loan : ℕ) → min (8 * length bytes) 524280 < at + w
+    → record { place = min (at + w) (2 ^ 64 - 1); bits = bits_of bytes; loan = loan } ≡ put (word w v) (record { place = at; bits = bits_of bytes; loan = loan })
+word-past bytes at w v loan less =
     let n : length (word w v) ≡ w = length-word w v in
-    (λ i. record { place = min (at + sym n i) (2 ^ 64 - 1); bits = bits_of bytes }) ∙ sym (put-past (word w v) (record { place = at; bits = bits_of bytes }) (omega (arith, length-bits bytes)))
+    (λ i. record { place = min (at + sym n i) (2 ^ 64 - 1); bits = bits_of bytes; loan = loan }) ∙ sym (put-past (word w v) (record { place = at; bits = bits_of bytes; loan = loan }) (omega (arith, length-bits bytes)))
 
 -- ---- a number of any width
 
@@ -83,3 +83,6 @@ close-word p =
     let ci = closing-is p in
     let same : number (closing p) ≡ (1 * 2 ^ spare) % 2 ^ 64 / 2 ^ 1 = ci.1 ∙ ap (λ x. x / 2) (sym (one_shl spare 64 (omega arith))) in
     ap (word spare) (sym same) ∙ word_of (closing p) spare ci.0
+
+-- what the widths of a number, of a ue and of a close come to
+pub ruleset widths = (coded-narrow, coded-wide, ue-is, ue-none, close-word)

@@ -5,7 +5,7 @@ mod methods;
 mod place;
 mod ranges;
 
-// The payload's bytes, and the bit at which the next field begins.
+// The payload's bytes, and the bit at which the next field begins: no slice begins there.
 #[derive(Drop)]
 pub struct Reader<'a> {
     bytes: &'a [u8],

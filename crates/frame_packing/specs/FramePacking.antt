@@ -4,8 +4,6 @@ use Rattle.layouts.specs.declared.fault.FieldFault.{FieldFault}
 use Rattle.layouts.specs.declared.fault.FieldFault.TheVariants.{OutOfRange}
 use Rattle.layouts.specs.Bits.{bit}
 use Rattle.layouts.specs.Layout.{Left, and_then, next, Layout, extension, reserved, flag, field, Code, u, ue, within, at_most, from}
-use Rattle.records.specs.declared.cancelable.Cancelable.{Cancelable}
-use Rattle.records.specs.declared.cancelable.Cancelable.TheVariants.{Cancel, Set}
 use Rattle.records.specs.declared.fault.PayloadFault.{PayloadFault}
 use Rattle.records.specs.declared.fault.PayloadFault.TheVariants.{TooLong}
 use Rattle.frame_packing.specs.declared.message.Arrangement.{Arrangement}
@@ -15,6 +13,7 @@ use Rattle.frame_packing.specs.declared.message.PackingFlags.{PackingFlags}
 use Rattle.frame_packing.specs.declared.message.PackingId.{PackingId}
 use Rattle.records.specs.declared.period.Period.{Period}
 use Rattle.frame_packing.specs.PackingIds.{reserved_id, unreserved, gridless}
+use Rattle.records.specs.Cancelable.{cancel_numbers}
 use Rattle.records.specs.Record.{as_payload}
 
 -- ---- its layout
@@ -58,13 +57,13 @@ period_numbers p = p.pictures ∷ []
 abbrev pub content_numbers : Arrangement → List ℕ
 content_numbers a = a.arrangement_type ∷ bit a.quincunx_sampling ∷ a.content_interpretation ∷ (flag_numbers a.flags ++ (grid_numbers a.grid ++ period_numbers a.period))
 
-abbrev pub arrangement_numbers : Cancelable Arrangement → List ℕ
-arrangement_numbers Cancel = 1 ∷ []
-arrangement_numbers (Set a) = 0 ∷ content_numbers a
+-- the cancel bit, and where it is 0 the numbers of the arrangement
+abbrev pub arrangement_numbers : Option Arrangement → List ℕ
+arrangement_numbers = cancel_numbers content_numbers
 
-abbrev pub is_cancel : Cancelable Arrangement → Bool
-is_cancel Cancel = true
-is_cancel (Set a) = false
+abbrev pub is_cancel : Option Arrangement → Bool
+is_cancel None = true
+is_cancel (Some a) = false
 
 abbrev pub numbers : FramePacking → List ℕ
 numbers p = p.id.number ∷ arrangement_numbers p.arrangement

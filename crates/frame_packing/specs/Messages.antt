@@ -10,8 +10,6 @@ use Rattle.layouts.specs.Bits.{bit, word}
 use Rattle.layouts.specs.Layout.{Left, and_then, next, Layout, extension, flag, u, ue, coded, reads, from}
 use Rattle.fields.specs.Writing.{Sheet, put, lays}
 use Rattle.fields.proofs.Groups.{bit_is}
-use Rattle.records.specs.declared.cancelable.Cancelable.{Cancelable}
-use Rattle.records.specs.declared.cancelable.Cancelable.TheVariants.{Cancel, Set}
 use Rattle.records.specs.declared.fault.PayloadFault.TheVariants.{TooLong}
 use Rattle.frame_packing.specs.declared.message.Arrangement.{Arrangement}
 use Rattle.frame_packing.specs.declared.message.GridPositions.{GridPositions}
@@ -124,8 +122,8 @@ arrangement-same a b e =
       gridded = is_prop→PathP (λ j. is_some (g.0 j) ≡ not (gridless (q j) (t j))) (λ j. Bool-set (is_some (g.0 j)) (not (gridless (q j) (t j)))) a.gridded b.gridded i;
     }
 
-pub cancelable-same : (a b : Cancelable Arrangement) → arrangement_numbers a ≡ arrangement_numbers b → a ≡ b
-cancelable-same Cancel Cancel e = refl
-cancelable-same Cancel (Set b) e = absurd (omega (arith, ap (λ l. slice_index l 0) e))
-cancelable-same (Set a) Cancel e = absurd (omega (arith, ap (λ l. slice_index l 0) e))
-cancelable-same (Set a) (Set b) e = ap Set (arrangement-same a b (ap (drop 1) e))
+pub cancelable-same : (a b : Option Arrangement) → arrangement_numbers a ≡ arrangement_numbers b → a ≡ b
+cancelable-same None None e = refl
+cancelable-same None (Some b) e = absurd (omega (arith, ap (λ l. slice_index l 0) e))
+cancelable-same (Some a) None e = absurd (omega (arith, ap (λ l. slice_index l 0) e))
+cancelable-same (Some a) (Some b) e = ap Some (arrangement-same a b (ap (drop 1) e))

@@ -6,8 +6,6 @@ use Rattle.layouts.specs.Bits.{bit}
 use Rattle.layouts.specs.Layout.{fine, out_of_range, Layout, Inside, Holds}
 use Rattle.fields.proofs.Groups.{bit_is}
 use Rattle.layouts.proofs.Steps.{at-most}
-use Rattle.records.specs.declared.cancelable.Cancelable.{Cancelable}
-use Rattle.records.specs.declared.cancelable.Cancelable.TheVariants.{Cancel, Set}
 use Rattle.frame_packing.specs.declared.message.Arrangement.{Arrangement}
 use Rattle.frame_packing.specs.declared.message.GridPositions.{GridPositions}
 use Rattle.frame_packing.specs.declared.message.PackingFlags.{PackingFlags}
@@ -59,6 +57,6 @@ id-small n e = small (nat_le 256 n) (nat_le n 511) (nat_le 2147483648 n) refl e
 pub id-inside : (i : PackingId) → Inside identity i.number
 id-inside i = (omega (arith, id-small i.number i.unreserved), ap (λ b. cond b out_of_range fine) i.unreserved)
 
-pub packing-holds : (i : PackingId) (a : Cancelable Arrangement) → Holds layout (i.number ∷ arrangement_numbers a)
-packing-holds i Cancel = (id-inside i, (omega arith, tt))
-packing-holds i (Set a) = (id-inside i, (omega arith, arrangement-holds a))
+pub packing-holds : (i : PackingId) (a : Option Arrangement) → Holds layout (i.number ∷ arrangement_numbers a)
+packing-holds i None = (id-inside i, (omega arith, tt))
+packing-holds i (Some a) = (id-inside i, (omega arith, arrangement-holds a))

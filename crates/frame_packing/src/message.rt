@@ -2,7 +2,6 @@
 ghost use Rattle.std.specs.Prelude.{◌≡◌, ◌^◌, ◌<◌, false, not, is_some};
 ghost use Rattle.frame_packing.specs.PackingIds.{reserved_id, gridless};
 
-use records::cancelable::Cancelable;
 use records::period::Period;
 use std::fmt;
 
@@ -45,9 +44,10 @@ pub struct GridPositions {
 
 #[derive(Clone, Copy, PartialEq, Eq, Debug)]
 pub struct Arrangement {
+    // a number, since 8 to 127 are reserved and kept as they are: `Reserved(n)` of an enum could hold a number that has a case of its own
     pub arrangement_type: u8,
     pub quincunx_sampling: bool,
-    // which frame is for which eye
+    // which frame is for which eye; a number, since 3 to 63 are reserved and kept as they are: `Reserved(n)` of an enum could hold a number that has a case of its own
     pub content_interpretation: u8,
     pub flags: PackingFlags,
     // left out by a quincunx sampling and by type 5
@@ -57,11 +57,12 @@ pub struct Arrangement {
     ghost gridded: { is_some grid ≡ not (gridless quincunx_sampling arrangement_type) },
 }
 
-// A message: it ends the packings in force or brings one of its id into force. A cancel has an id too.
+// A message: it brings an arrangement of its id into force, or ends the packings in force. A cancel has an id too.
 #[derive(Clone, Copy, PartialEq, Eq, Debug)]
 pub struct FramePacking {
     pub id: PackingId,
-    pub arrangement: Cancelable<Arrangement>,
+    // none where it cancels
+    pub arrangement: Option<Arrangement>,
 }
 
 impl Arrangement {

@@ -1,7 +1,7 @@
 -- A payload of a part, by its place.
-use Rattle.std.proofs.Common.{◌≡◌, ℕ, zero, suc, ◌<◌, ◌≤◌, Bool, true, false, cond, leb, List, [], ◌∷◌, map, length, get_or, Some, None, Ok, Err, Result, sym, refl, ap, ◌∙◌, arith}
+use Rattle.std.proofs.Common.{◌≡◌, ℕ, zero, suc, ◌<◌, Bool, true, false, cond, leb, List, [], ◌∷◌, map, length, get_or, Some, None, Ok, Err, Result, sym, refl, ap, ◌∙◌, arith}
 use Rattle.std.specs.List.{slice_get}
-use Rattle.std.proofs.lemmas.Bool.{lt-ltb, le-ltb}
+use Rattle.std.proofs.lemmas.Bool.{lt-ltb}
 use Rattle.layouts.specs.declared.fault.ShortBuffer.{ShortBuffer}
 use Rattle.layouts.specs.Frames.{fronted}
 use Rattle.records.specs.Record.{written}
@@ -47,26 +47,15 @@ module _ {A B : Type 0} (f : B → List ℕ) (g : A → B) where
   some_at (y ∷ ys) zero x e = let h : y ≡ x = cc in (omega arith, ap (λ z. f (g z)) h)
   some_at (y ∷ ys) (suc n) x e = let h = some_at ys n x e in (omega (arith, h.0), h.1)
 
-  none-at : (xs : List A) (n : ℕ) → slice_get xs n ≡ None → length (map f (map g xs)) ≤ n
-  none-at [] n e = omega arith
-  none-at (y ∷ ys) zero e = let z : ◌≡◌ {A = ℕ} 0 1 = cc in absurd (omega arith)
-  none-at (y ∷ ys) (suc n) e = omega (arith, none-at ys n e)
-
   pub length_some : (xs : List A) (n : ℕ) (x : A) → slice_get xs n ≡ Some x → length_of (map f (map g xs)) n ≡ Some (length (f (g x)))
   length_some xs n x e =
       let h = some_at xs n x e in
       ap (λ b. cond b (Some (length (get_or (map f (map g xs)) n []))) None) (lt-ltb n (length (map f (map g xs))) h.0) ∙ ap (λ l. Some (length l)) h.1
 
-  pub length_none : (xs : List A) (n : ℕ) → slice_get xs n ≡ None → length_of (map f (map g xs)) n ≡ None
-  length_none xs n e = ap (λ b. cond b (Some (length (get_or (map f (map g xs)) n []))) None) (le-ltb n (length (map f (map g xs))) (none-at xs n e))
-
   looked-some : (xs : List A) (n : ℕ) (x : A) (buffer : List ℕ) → slice_get xs n ≡ Some x → looked (map f (map g xs)) n buffer ≡ copied (f (g x)) buffer
   looked-some xs n x buffer e =
       let h = some_at xs n x e in
       ap (λ b. cond b (copied (get_or (map f (map g xs)) n []) buffer) (Err Missing, buffer)) (lt-ltb n (length (map f (map g xs))) h.0) ∙ ap (λ l. copied l buffer) h.1
-
-  pub looked-none : (xs : List A) (n : ℕ) (buffer : List ℕ) → slice_get xs n ≡ None → looked (map f (map g xs)) n buffer ≡ (Err Missing, buffer)
-  looked-none xs n buffer e = ap (λ b. cond b (copied (get_or (map f (map g xs)) n []) buffer) (Err Missing, buffer)) (le-ltb n (length (map f (map g xs))) (none-at xs n e))
 
   module _ (xs : List A) (n : ℕ) (x : A) (buffer : List ℕ) (e : slice_get xs n ≡ Some x) where
     pub looked-short : (s : ShortBuffer) → Err s ≡ (written (f (g x)) buffer).0 → Err ShortCase ≡ (looked (map f (map g xs)) n buffer).0

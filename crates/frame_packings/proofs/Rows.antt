@@ -1,110 +1,58 @@
--- Tables of packings that are filled one after the other, and what they mean.
-use Rattle.std.proofs.Common.{◌≡◌, ℕ, zero, suc, ◌+◌, ◌<◌, ◌≤◌, Bool, true, false, cond, not, ltb, leb, List, [], ◌∷◌, ◌++◌, map, length, take, filter, Option, sym, refl, ap, ◌∙◌, ⊎_elim, append_assoc, append-nil, arith, length-append, length-take, take_all}
+-- Tables of packings of which some are kept, and what they mean.
+use Rattle.std.proofs.Common.{◌≡◌, ℕ, ◌+◌, ◌<◌, ◌≤◌, Bool, true, false, cond, ltb, nat_lt, List, [], ◌∷◌, ◌++◌, map, length, take, filter, sym, refl, ap, ◌∙◌, append_assoc, arith, length-append, take_all}
 use lib.ListN.{length-map}
-use lib.Seq.{take-append-le}
-use Rattle.std.specs.List.{slice_get}
-use Rattle.std.proofs.lemmas.List.Elements.{filter-append}
-use Rattle.std.proofs.lemmas.List.Filters.{length-filter_both}
 use Rattle.std.proofs.lemmas.List.{map-append}
-use Rattle.std.proofs.lemmas.Bool.{lt-ltb, le-ltb, cases_lt, leb-false}
+use Rattle.std.proofs.lemmas.Bool.{lt-ltb, leb-false}
 use Rattle.frame_packings.specs.declared.packing.Packing.{Packing}
-use Rattle.frame_packings.specs.declared.which.Which.TheVariants.{Lower, Higher, Staying}
 use Rattle.frame_packings.specs.Packings.{outlasts, lower, higher, joined, full}
-use Rattle.frame_packings.specs.Tables.{packed_of, takes, optional, meaning_of}
-
--- one more behind the first four of a list
-push-four : {A : Type 0} (xs ys : List A) (x : A) (ok : Bool) → ys ≡ take 4 xs → ok ≡ ltb (length ys) 4 → cond ok (ys ++ x ∷ []) ys ≡ take 4 (xs ++ x ∷ [])
-push-four xs ys x ok e k =
-    ⊎_elim
-    (λ (h : length xs < 4).
-    let short : length xs ≤ 4 = omega arith in
-    let all : ys ≡ xs = e ∙ take_all 4 xs short in
-    let few : length (xs ++ x ∷ []) ≤ 4 = omega (arith, length-append xs (x ∷ [])) in
-    ap (λ b. cond b (ys ++ x ∷ []) ys) (k ∙ lt-ltb (length ys) 4 (omega (arith, ap length all))) ∙ ap (λ l. l ++ x ∷ []) all ∙ sym (take_all 4 (xs ++ x ∷ []) few))
-    (λ (h : 4 ≤ length xs).
-    ap (λ b. cond b (ys ++ x ∷ []) ys) (k ∙ le-ltb (length ys) 4 (omega (arith, ap length e, length-take 4 xs))) ∙ e ∙ sym (take-append-le 4 xs (x ∷ []) h))
-    (cases_lt (length xs) 4)
-
--- nothing more behind at most four
-pub none-four : {A : Type 0} (xs : List A) → length xs ≤ 4 → xs ≡ take 4 (xs ++ [])
-none-four xs h = sym (ap (take 4) (append-nil xs) ∙ take_all 4 xs h)
-
-take_twice : {A : Type 0} (n : ℕ) (xs ys : List A) → take n (take n xs ++ ys) ≡ take n (xs ++ ys)
-take_twice zero xs ys = refl
-take_twice (suc n) [] ys = refl
-take_twice (suc n) (x ∷ xs) ys = ap (λ l. x ∷ l) (take_twice n xs ys)
-
-take_next : {A : Type 0} (xs : List A) (i : ℕ) → take (suc i) xs ≡ take i xs ++ optional (slice_get xs i)
-take_next [] zero = refl
-take_next [] (suc i) = refl
-take_next (x ∷ xs) zero = refl
-take_next (x ∷ xs) (suc i) = ap (λ l. x ∷ l) (take_next xs i)
-
--- one more of a list that is gone through
-pub more-four : {A : Type 0} (p : A → Bool) (front xs all more : List A) (i : ℕ) (o : Option A) → all ≡ take 4 (front ++ filter p (take i xs)) → o ≡ slice_get xs i → more ≡ take 4 (all ++ filter p (optional o)) → more ≡ take 4 (front ++ filter p (take (i + 1) xs))
-more-four p front xs all more i o a e m =
-    let next : suc i ≡ i + 1 = omega arith in
-    m ∙ (λ j. take 4 (a j ++ filter p (optional (e j))))
-    ∙ take_twice 4 (front ++ filter p (take i xs)) (filter p (optional (slice_get xs i)))
-    ∙ ap (take 4) (append_assoc front (filter p (take i xs)) (filter p (optional (slice_get xs i))))
-    ∙ ap (λ l. take 4 (front ++ l)) (sym (filter-append p (take i xs) (optional (slice_get xs i))) ∙ ap (filter p) (sym (take_next xs i) ∙ ap (λ n. take n xs) next))
-
--- one that is meant, and one that is not
-pub kept-one : {A : Type 0} (p : A → Bool) (xs ys : List A) (x : A) (ok : Bool) → length xs ≤ 4 → ok ≡ ltb (length xs) 4 → ys ≡ cond ok (xs ++ x ∷ []) xs → p x ≡ true → ys ≡ take 4 (xs ++ filter p (x ∷ []))
-kept-one p xs ys x ok few k e t = e ∙ push-four xs xs x ok (sym (take_all 4 xs few)) k ∙ ap (λ b. take 4 (xs ++ cond b (x ∷ []) [])) (sym t)
-
-pub kept-not : {A : Type 0} (p : A → Bool) (xs : List A) (x : A) → length xs ≤ 4 → p x ≡ false → xs ≡ take 4 (xs ++ filter p (x ∷ []))
-kept-not p xs x few t = none-four xs few ∙ ap (λ b. take 4 (xs ++ cond b (x ∷ []) [])) (sym t)
-
--- ---- what is kept of a table means what is kept of its meaning
+use Rattle.frame_packings.specs.TableLaws.{kept-rises}
+use Rattle.frame_packings.specs.Tables.{packed_of, meaning_of, rises}
 
 kept_map : {A B : Type 0} (f : A → B) (q : B → Bool) (xs : List A) → filter q (map f xs) ≡ map f (filter (λ x. q (f x)) xs)
 kept_map f q [] = refl
 kept_map f q (x ∷ xs) = go (q (f x)) (kept_map f q xs)
   where
-    go : (b : Bool) → filter q (map f xs) ≡ map f (filter (λ x. q (f x)) xs) → cond b (f x ∷ filter q (map f xs)) (filter q (map f xs)) ≡ map f (cond b (x ∷ filter (λ x. q (f x)) xs) (filter (λ x. q (f x)) xs))
+    go : (b : Bool) → filter q (map f xs) ≡ map f (filter (λ y. q (f y)) xs) → cond b (f x ∷ filter q (map f xs)) (filter q (map f xs)) ≡ map f (cond b (x ∷ filter (λ y. q (f y)) xs) (filter (λ y. q (f y)) xs))
     go true e = ap (λ l. f x ∷ l) e
     go false e = e
 
-lower-means : (n : ℕ) (ps : List Packing) → lower n (meaning_of ps) ≡ meaning_of (filter (takes (Lower n)) ps)
-lower-means n ps = kept_map packed_of (λ x. ltb x.id n) ps
+lower-means : (n : ℕ) (ps : List Packing) → lower n (meaning_of ps) ≡ meaning_of (filter (λ p. nat_lt p.id.number n) ps)
+lower-means n ps = kept_map packed_of (λ x. nat_lt x.id n) ps
 
-higher-means : (n : ℕ) (ps : List Packing) → higher n (meaning_of ps) ≡ meaning_of (filter (takes (Higher n)) ps)
-higher-means n ps = kept_map packed_of (λ x. ltb n x.id) ps
+higher-means : (n : ℕ) (ps : List Packing) → higher n (meaning_of ps) ≡ meaning_of (filter (λ p. nat_lt n p.id.number) ps)
+higher-means n ps = kept_map packed_of (λ x. nat_lt n x.id) ps
 
-staying-means : (ps : List Packing) → filter outlasts (meaning_of ps) ≡ meaning_of (filter (takes Staying) ps)
-staying-means ps = kept_map packed_of outlasts ps
+-- those that stay
+pub staying-means : (ps qs : List Packing) → qs ≡ filter (λ p. outlasts (packed_of p)) ps → meaning_of qs ≡ filter outlasts (meaning_of ps)
+staying-means ps qs e = ap meaning_of e ∙ sym (kept_map packed_of outlasts ps)
 
-kept-fewer : {A : Type 0} (p : A → Bool) (xs : List A) → length (filter p xs) ≤ length xs
-kept-fewer p xs = omega (arith, length-filter_both p (λ x. not (p x)) (λ _. refl) xs)
+pub staying-rises : (ps qs : List Packing) → qs ≡ filter (λ p. outlasts (packed_of p)) ps → rises (meaning_of ps) ≡ true → rises (meaning_of qs) ≡ true
+staying-rises ps qs e r = ap rises (staying-means ps qs e) ∙ kept-rises outlasts (meaning_of ps) r
 
--- what is kept of at most four, behind nothing
-pub kept-four : {A : Type 0} (p : A → Bool) (xs none ys : List A) → length xs ≤ 4 → none ≡ [] → ys ≡ take 4 (none ++ filter p xs) → ys ≡ filter p xs
-kept-four p xs none ys h n e = let few : length (filter p xs) ≤ 4 = omega (arith, kept-fewer p xs) in e ∙ ap (λ l. take 4 (l ++ filter p xs)) n ∙ take_all 4 (filter p xs) few
+pub ruleset staying = (staying-means)
 
--- those that stay, of at most four
-pub staying-table : (ps none ys : List Packing) → length ps ≤ 4 → none ≡ [] → ys ≡ take 4 (none ++ filter (takes Staying) ps) → meaning_of ys ≡ filter outlasts (meaning_of ps)
-staying-table ps none ys few n e = ap meaning_of (kept-four (takes Staying) ps none ys few n e) ∙ sym (staying-means ps)
+-- how many are of lower and of higher ids
+pub lower-many : (n : ℕ) (ps : List Packing) → length (filter (λ p. nat_lt p.id.number n) ps) ≡ length (lower n (meaning_of ps))
+lower-many n ps = sym (length-map (filter (λ p. nat_lt p.id.number n) ps) packed_of) ∙ ap length (sym (lower-means n ps))
 
--- whether there is room, by the lengths of what is kept
-pub full-means : (n : ℕ) (ps : List Packing) (l h : ℕ) → l ≡ length (filter (takes (Lower n)) ps) → h ≡ length (filter (takes (Higher n)) ps) → leb 4 (l + h) ≡ full n (meaning_of ps)
-full-means n ps l h a b =
-    let c : l ≡ length (lower n (meaning_of ps)) = a ∙ sym (length-map (filter (takes (Lower n)) ps) packed_of) ∙ ap length (sym (lower-means n ps)) in
-    let d : h ≡ length (higher n (meaning_of ps)) = b ∙ sym (length-map (filter (takes (Higher n)) ps) packed_of) ∙ ap length (sym (higher-means n ps)) in
-    λ i. leb 4 (c i + d i)
+pub higher-many : (n : ℕ) (ps : List Packing) → length (filter (λ p. nat_lt n p.id.number) ps) ≡ length (higher n (meaning_of ps))
+higher-many n ps = sym (length-map (filter (λ p. nat_lt n p.id.number) ps) packed_of) ∙ ap length (sym (higher-means n ps))
 
 -- a packing between those of lower and those of higher ids
-pub joined-means : (ps none low mid all : List Packing) (x : Packing) (ok : Bool) → length ps ≤ 4 → full x.id.number (meaning_of ps) ≡ false
-    → none ≡ [] → low ≡ take 4 (none ++ filter (takes (Lower x.id.number)) ps) → ok ≡ ltb (length low) 4 → mid ≡ cond ok (low ++ x ∷ []) low → all ≡ take 4 (mid ++ filter (takes (Higher x.id.number)) ps)
+pub joined-means : (ps low mid high all : List Packing) (x : Packing) (ok : Bool) → full x.id.number (meaning_of ps) ≡ false
+    → low ≡ filter (λ p. nat_lt p.id.number x.id.number) ps → ok ≡ ltb (length low) 4 → mid ≡ cond ok (low ++ x ∷ []) low → high ≡ filter (λ p. nat_lt x.id.number p.id.number) ps → all ≡ take 4 (mid ++ high)
     → meaning_of all ≡ joined (packed_of x) (meaning_of ps)
-joined-means ps none low mid all x ok few room z a o m b =
+joined-means ps low mid high all x ok room l o e h t =
     let n = x.id.number in
-    let L = filter (takes (Lower n)) ps in
-    let H = filter (takes (Higher n)) ps in
-    let sum : length L + length H < 4 = leb-false 4 (length L + length H) (full-means n ps (length L) (length H) refl refl ∙ room) in
-    let is_low : low ≡ L = kept-four (takes (Lower n)) ps none low few z a in
-    let is_ok : ok ≡ true = o ∙ lt-ltb (length low) 4 (omega (arith, ap length is_low)) in
-    let is_mid : mid ≡ L ++ x ∷ [] = m ∙ ap (λ b. cond b (low ++ x ∷ []) low) is_ok ∙ ap (λ l. l ++ x ∷ []) is_low in
-    let short : length ((L ++ x ∷ []) ++ H) ≤ 4 = omega (arith, length-append (L ++ x ∷ []) H, length-append L (x ∷ [])) in
-    let is_all : all ≡ L ++ x ∷ H = b ∙ ap (λ l. take 4 (l ++ H)) is_mid ∙ take_all 4 ((L ++ x ∷ []) ++ H) short ∙ append_assoc L (x ∷ []) H in
-    ap meaning_of is_all ∙ map-append packed_of L (x ∷ H) ∙ (λ i. sym (lower-means n ps) i ++ packed_of x ∷ sym (higher-means n ps) i)
+    let m = meaning_of ps in
+    let few : length (lower n m) + length (higher n m) < 4 = leb-false 4 (length (lower n m) + length (higher n m)) room in
+    let a : length low ≡ length (lower n m) = ap length l ∙ lower-many n ps in
+    let b : length high ≡ length (higher n m) = ap length h ∙ higher-many n ps in
+    let is_ok : ok ≡ true = o ∙ lt-ltb (length low) 4 (omega arith) in
+    let is_mid : mid ≡ low ++ x ∷ [] = e ∙ ap (λ c. cond c (low ++ x ∷ []) low) is_ok in
+    let short : length ((low ++ x ∷ []) ++ high) ≤ 4 = omega (arith, length-append (low ++ x ∷ []) high, length-append low (x ∷ [])) in
+    let is_all : all ≡ low ++ x ∷ high = t ∙ ap (λ l. take 4 (l ++ high)) is_mid ∙ take_all 4 ((low ++ x ∷ []) ++ high) short ∙ append_assoc low (x ∷ []) high in
+    ap meaning_of is_all ∙ map-append packed_of low (x ∷ high) ∙ (λ i. (ap meaning_of l ∙ sym (lower-means n ps)) i ++ packed_of x ∷ (ap meaning_of h ∙ sym (higher-means n ps)) i)
+
+-- a payload for each packing
+pub ruleset as_many = (length-map)

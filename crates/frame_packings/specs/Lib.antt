@@ -1,4 +1,5 @@
 pub mod Examples
+pub mod Meaning
 pub mod PackingLaws
 pub mod Packings
 pub mod TableLaws

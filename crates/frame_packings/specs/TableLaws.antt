@@ -1,12 +1,11 @@
 -- A table of packings is sound: at most four, upward by id, each as a message can have brought it.
-use Rattle.std.specs.Prelude.{◌≡◌, ℕ, ◌<◌, ◌≤◌, Bool, true, false, cond, ◌&&◌, List, [], ◌∷◌, length, Some, None, filter, Option, nat_lt, refl}
+use Rattle.std.specs.Prelude.{◌≡◌, ℕ, ◌<◌, Bool, true, false, cond, ◌&&◌, List, [], ◌∷◌, filter, nat_lt, refl}
 use Rattle.std.proofs.Common.{ap, arith}
 use Rattle.std.proofs.lemmas.List.{length-map}
 use Rattle.std.specs.List.{AllByRecursion}
 use Rattle.std.proofs.lemmas.Bool.{lt-ltb, ltb-true}
-use Rattle.bounded.specs.declared.Bounded.{Bounded}
 use Rattle.bounded.specs.Bounded.{items}
-use Rattle.bounded.specs.Places.{held}
+use Rattle.bounded.proofs.Cells.{items-few}
 use Rattle.frame_packing.specs.Propers.{id-inside, arrangement-holds}
 use Rattle.frame_packings.specs.declared.packings.FramePackings.{FramePackings}
 use Rattle.frame_packings.specs.declared.packing.Packing.{Packing}
@@ -45,16 +44,6 @@ joined-rises x m e = so-rises (joined x m) (joined-rising x m (rises-so m e))
 
 -- ---- a table
 
-held-short : {A : Type 0} (cells : List (Option A)) → length (held cells) ≤ length cells
-unfolding held
-held-short [] = omega arith
-held-short (None ∷ cs) = omega (arith, held-short cs)
-held-short (Some x ∷ cs) = omega (arith, held-short cs)
-
--- it holds at most four
-pub table-few : (t : Bounded Packing 4) → length (items t) ≤ 4
-table-few t = omega (arith, held-short t.places.cells, t.whole)
-
 all-proper : (ps : List Packing) → AllByRecursion Proper (meaning_of ps)
 all-proper [] = tt
 all-proper (p ∷ ps) = ((id-inside p.id, (arrangement-holds p.arrangement, refl)), all-proper ps)
@@ -62,6 +51,6 @@ all-proper (p ∷ ps) = ((id-inside p.id, (arrangement-holds p.arrangement, refl
 pub table_sound : (s : FramePackings) → Sound (meaning_of (items s.table))
 table_sound s = record {
   rising = rises-so (meaning_of (items s.table)) s.rising;
-  few = omega (arith, length-map (items s.table) packed_of, table-few s.table);
+  few = omega (arith, length-map (items s.table) packed_of, items-few s.table);
   propers = all-proper (items s.table);
 }

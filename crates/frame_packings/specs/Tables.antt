@@ -1,14 +1,11 @@
--- A table of packings: what it means, and which of its packings are meant.
+-- A table of packings, and what it means.
 use Rattle.std.specs.Prelude.{ℕ, Bool, true, false, ◌&&◌, List, [], ◌∷◌, map, Some, None, Ok, Err, Option, Result, nat_lt}
 use Rattle.records.specs.declared.fault.PayloadFault.{PayloadFault}
-use Rattle.records.specs.declared.cancelable.Cancelable.TheVariants.{Set}
 use Rattle.frame_packing.specs.declared.message.FramePacking.{FramePacking}
 use Rattle.frame_packing.specs.FramePacking.{content_numbers, is_cancel}
 use Rattle.kinds.specs.declared.in_force.InForce.{InForce}
 use Rattle.frame_packings.specs.declared.packing.Packing.{Packing}
-use Rattle.frame_packings.specs.declared.which.Which.{Which}
-use Rattle.frame_packings.specs.declared.which.Which.TheVariants.{Lower, Higher, Staying}
-use Rattle.frame_packings.specs.Packings.{Packed, packing_stay, packed, outlasts, full, payload_of}
+use Rattle.frame_packings.specs.Packings.{Packed, packing_stay, packed, full, payload_of}
 
 -- what a packing means
 abbrev pub packed_of : Packing → Packed
@@ -16,18 +13,7 @@ packed_of p = packed p.id.number (content_numbers p.arrangement)
 
 -- the message that brings it into force
 abbrev pub message_of : Packing → FramePacking
-message_of p = record { id = p.id; arrangement = Set p.arrangement }
-
--- what may be there, as a list
-abbrev pub optional : {A : Type 0} → Option A → List A
-optional None = []
-optional (Some x) = x ∷ []
-
--- whether a packing is one of those that are meant
-abbrev pub takes : Which → Packing → Bool
-takes (Lower id) p = nat_lt (packed_of p).id id
-takes (Higher id) p = nat_lt id (packed_of p).id
-takes Staying p = outlasts (packed_of p)
+message_of p = record { id = p.id; arrangement = Some p.arrangement }
 
 -- n is below all of these
 abbrev pub below_all : ℕ → List Packed → Bool

@@ -6,4 +6,3 @@ pub mod packing;
 pub mod packings;
 #[cfg(test)]
 mod tests;
-mod which;

@@ -10,6 +10,7 @@ mod decisions;
 pub mod kind;
 mod table;
 
+// The table stands in place, and is filled anew: a map would be heap memory.
 #[derive(Drop)]
 pub struct FramePackings {
     table: Bounded<Packing, 4>,

@@ -4,13 +4,13 @@ use frame_packing::message::{Arrangement, FramePacking, GridPositions, PackingFl
 use kinds::fault::{LookFault, Offered};
 use kinds::kind::Kind;
 use layouts::fault::{Fault, FieldFault};
-use records::cancelable::Cancelable;
 use records::period::Period;
 use records::record::Record;
 use std::process::Abort;
 use std::test::Fail;
 
-// What an offer answers: the number and the place of its refusal, 0 and 0 where it is granted, 255 where it is passed.
+// What an offer answers: the number and the place of its refusal, as they are told, 0 and 0 where it is granted, 255
+// where it is passed.
 fn told(kind: &mut FramePackings, payload: &[u8]) -> (u8, usize) {
     match kind.offer(payload) {
         Ok(Offered::Granted) => (0, 0),
@@ -27,15 +27,15 @@ fn number(answer: Result<usize, LookFault>) -> u8 {
     }
 }
 
-// No id.
+// No id; a number, as the tables have them.
 const NONE: u32 = u32::MAX;
 
 // The ids in force.
 fn ids(kind: &FramePackings) -> [u32; 4] {
     let mut ids = [NONE; 4];
-    for n in 0..4 {
+    for (n, id) in ids.iter_mut().enumerate() {
         if let Some(thing) = kind.in_force(n) {
-            ids[n] = thing.content.id.number;
+            *id = thing.content.id.number;
         }
     }
     ids
@@ -248,8 +248,8 @@ fn greatest(rt: HostRuntime) {
     );
     assert_eq!(rt; kind.payload_len(2), Some(17));
     assert_eq!(rt; kind.payload_len(3), Some(18));
-    assert_eq!(rt; <FramePackings as Kind>::greatest_length(), 77);
-    assert_eq!(rt; <FramePackings as Kind>::type_number(), 45);
+    assert_eq!(rt; <FramePackings as Kind>::GREATEST, 77);
+    assert_eq!(rt; <FramePackings as Kind>::TYPE, 45);
 }
 
 #[test]
@@ -304,7 +304,7 @@ fn made(rt: HostRuntime) -> Result<(), Fail> {
     let arrangement = Arrangement::new(4, false, 2, flags, Some(grid), period)?;
     let message = FramePacking {
         id: PackingId::new(2)?,
-        arrangement: Cancelable::Set(arrangement),
+        arrangement: Some(arrangement),
     };
     let mut buffer = [0; 7];
     assert!(rt; message.write(&mut buffer).is_ok());

@@ -73,3 +73,7 @@ module _ (number greatest n : ℕ) (content : Layout) (takes : Takes content n) 
       said p vs (Ok []) f g = none-some g
       said p vs (Ok (c ∷ ws)) f g = behind content ws vs (c == 1) (reads-holds (cancelable content) p (c ∷ ws) f).1 g
       said p vs (Err e) f g = ok-err g
+
+-- the same for a content whose bits are known to fit a payload
+pub canceling_of : (number greatest most : ℕ) (content : Layout) → Takes content most → most ≤ 524279 → (stay : List ℕ → Stay) → number / 255 + 1 + ((most + 8) / 8 / 255 + 1 + (most + 8) / 8) ≤ greatest → Ruled (canceling number greatest content stay)
+canceling_of number greatest most content takes few stay = canceling_ruled number greatest most content takes stay (omega (arith, few))

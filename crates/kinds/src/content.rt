@@ -9,25 +9,18 @@ use records::fault::PayloadFault;
 
 // The content of a thing in force, by its numbers, under the rules of its kind.
 pub trait Content: Copy {
+    ghost TYPE: { ℕ };
+
     const TYPE: u32;
+
+    // the greatest length of its part, framed
+    ghost GREATEST: { ℕ };
 
     const GREATEST: usize;
 
     ghost rules: { Rules };
 
-    ghost ruled: { Ruled rules };
-
     ghost numbers: { Self → List ℕ };
-
-    ghost proper: { (c : Self) → rules.Proper (numbers c) };
-
-    // `TYPE`, with a contract.
-    fn type_number() -> u32
-        ensures { result ≡ rules.number };
-
-    // `GREATEST`, with a contract.
-    fn greatest_length() -> usize
-        ensures { result ≡ rules.greatest };
 
     // What a payload says: a content, or none where it cancels.
     fn read(payload: &[u8]) -> Result<Option<Self>, PayloadFault>
@@ -49,4 +42,14 @@ pub trait Content: Copy {
     // Whether it may come while `held` is in force.
     fn agrees(&self, held: &Self) -> bool
         ensures { result ≡ rules.agrees (numbers held.now) (numbers self.now) };
+
+    // The rules have what rules must have, and every content is one that a payload can say.
+    ghost ruled: { Ruled rules };
+
+    ghost proper: { (c : Self) → rules.Proper (numbers c) };
+
+    // The constants are those of the rules.
+    ghost typed: { TYPE ≡ rules.number };
+
+    ghost limited: { GREATEST ≡ rules.greatest };
 }

@@ -53,16 +53,14 @@ impl Fault for OfferFault {
     fn layer(&self) -> Layer {
         match *self {
             OfferFault::Payload(fault) => fault.layer(),
-            OfferFault::Disagrees => Layer::Visit,
-            OfferFault::Full => Layer::Visit,
+            OfferFault::Disagrees | OfferFault::Full => Layer::Visit,
         }
     }
 
     fn place(&self) -> usize {
         match *self {
             OfferFault::Payload(fault) => fault.place(),
-            OfferFault::Disagrees => 0,
-            OfferFault::Full => 0,
+            OfferFault::Disagrees | OfferFault::Full => 0,
         }
     }
 }

@@ -1,5 +1,5 @@
 // The interface of a kind: what it promises to whoever holds it.
-ghost use Rattle.std.specs.Prelude.{◌≡◌, length};
+ghost use Rattle.std.specs.Prelude.{◌≡◌, ℕ, length};
 ghost use Rattle.kinds.specs.Model.{Model, Lawful};
 ghost use Rattle.kinds.specs.Outcome.{after, told, length_of, looked};
 
@@ -7,26 +7,18 @@ use crate::fault::{LookFault, OfferFault, Offered};
 
 // A kind of message, by what is in force of it.
 pub trait Kind: Sized + Drop {
+    ghost TYPE: { ℕ };
+
     const TYPE: u32;
 
     // the greatest length of its part, framed
+    ghost GREATEST: { ℕ };
+
     const GREATEST: usize;
 
     ghost model: { Model };
 
     ghost meaning: { Self → model.Meaning };
-
-    ghost lawful: { Lawful model };
-
-    ghost sound: { (s : Self) → model.Sound (meaning s) };
-
-    // `TYPE`, with a contract.
-    fn type_number() -> u32
-        ensures { result ≡ model.number };
-
-    // `GREATEST`, with a contract.
-    fn greatest_length() -> usize
-        ensures { result ≡ model.greatest };
 
     // Nothing in force.
     fn empty() -> Self
@@ -53,4 +45,14 @@ pub trait Kind: Sized + Drop {
     fn payload(&self, n: usize, buffer: &mut [u8]) -> Result<usize, LookFault>
         ensures answer { result ≡ (looked (model.part (meaning self.now)) n buffer.old).0 }
         ensures bytes { buffer.new ≡ (looked (model.part (meaning self.now)) n buffer.old).1 };
+
+    // It shows what every kind shows, and comes to sound meanings alone.
+    ghost lawful: { Lawful model };
+
+    ghost sound: { (s : Self) → model.Sound (meaning s) };
+
+    // The constants are those of the model.
+    ghost typed: { TYPE ≡ model.number };
+
+    ghost limited: { GREATEST ≡ model.greatest };
 }

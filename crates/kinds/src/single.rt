@@ -19,27 +19,25 @@ impl<C: Content> Single<C> {
     pub fn in_force(&self) -> Option<InForce<C>>
         ensures { result ≡ in_force_of C.Content.rules C.Content.numbers self.now.content }
     {
-        match &self.content {
-            Some(content) => Some(InForce {
-                content: *content,
-                stay: content.stay(),
-            }),
-            None => None,
-        }
+        self.content.map(|content| InForce {
+            content,
+            stay: content.stay(),
+        })
     }
 
     fn stay(&self) -> Option<Stay>
         ensures { result ≡ stay_of C.Content.rules C.Content.numbers self.now.content }
     {
-        match &self.content {
-            Some(content) => Some(content.stay()),
-            None => None,
-        }
+        self.content.map(|content| content.stay())
     }
 }
 
 impl<C: Content> Kind for Single<C> {
+    ghost TYPE = { C.Content.TYPE };
+
     const TYPE: u32 = C::TYPE;
+
+    ghost GREATEST = { C.Content.GREATEST };
 
     const GREATEST: usize = C::GREATEST;
 
@@ -51,13 +49,9 @@ impl<C: Content> Kind for Single<C> {
 
     ghost sound = { λ s. single_sound C.Content.rules C.Content.numbers C.Content.proper s.content };
 
-    fn type_number() -> u32 {
-        C::type_number()
-    }
+    ghost typed = { C.Content.typed };
 
-    fn greatest_length() -> usize {
-        C::greatest_length()
-    }
+    ghost limited = { C.Content.limited };
 
     fn empty() -> Single<C> {
         Single { content: None }
@@ -82,10 +76,7 @@ impl<C: Content> Kind for Single<C> {
     }
 
     fn count(&self) -> usize {
-        match &self.content {
-            Some(_) => 1,
-            None => 0,
-        }
+        self.content.is_some() as usize
     }
 
     fn payload_len(&self, n: usize) -> Option<usize> {

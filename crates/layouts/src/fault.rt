@@ -25,7 +25,8 @@ impl fmt::Display for Layer {
     }
 }
 
-// A refusal: which question was answered with "no", in which layer, and where.
+// A refusal: which question was answered with "no", in which layer, and where. Each is an enum; its number is what is
+// told outside.
 pub trait Fault {
     ghost number: { Self → ℕ };
 
@@ -41,6 +42,19 @@ pub trait Fault {
 
     fn place(&self) -> usize
         ensures { result ≡ place self.now };
+}
+
+// A refusal as it is told: its number, its layer and its place, as in `9 payload 2`.
+#[derive(Clone, Copy)]
+pub struct Told<F>(pub F);
+
+impl<F: Fault> fmt::Display for Told<F> {
+    fn fmt<W: fmt::Write>(&self, f: &mut fmt::Formatter<W>) -> fmt::Result {
+        let number = self.0.number();
+        let layer = self.0.layer();
+        let place = self.0.place();
+        write!(f, "{number} {layer} {place}")
+    }
 }
 
 // Why a field is refused, with the bit of the payload at which the field begins.
@@ -78,10 +92,10 @@ impl Fault for FieldFault {
 
     fn place(&self) -> usize {
         match *self {
-            FieldFault::Short(bit) => bit,
-            FieldFault::OutOfRange(bit) => bit,
-            FieldFault::PastLimit(bit) => bit,
-            FieldFault::Ending(bit) => bit,
+            FieldFault::Short(bit)
+            | FieldFault::OutOfRange(bit)
+            | FieldFault::PastLimit(bit)
+            | FieldFault::Ending(bit) => bit,
         }
     }
 }

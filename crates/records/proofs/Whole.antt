@@ -38,8 +38,8 @@ module _ (l : Layout) (vs : List ℕ) (holds : Holds l vs) (short : size l vs �
   written-short buffer h = rw (lt-leb (length (payload l vs)) (length buffer) h)
 
   -- where it fits: after is what the writer left in the buffer
-  pub written-whole : (before after : List ℕ) (n : ℕ) (s t : Sheet) → n ≡ length (payload l vs) → length (payload l vs) ≤ length before → ((i : ℕ) → get_or before i 0 < 256) → ((i : ℕ) → get_or after i 0 < 256)
-      → s ≡ record { place = 0; bits = bits_of before } → t ≡ lays l vs s → t.bits ≡ bits_of after → (Ok n, after) ≡ written (payload l vs) before
-  written-whole before after n s t len room b a e f g =
-      let front : after ≡ fronted (payload l vs) before = written-front l vs before after holds (omega (arith, length-payload l vs)) short (bytes-from before b) (bytes-from after a) (sym g ∙ ap (λ x. x.bits) (f ∙ ap (lays l vs) e)) in
+  pub written-whole : (before after : List ℕ) (n loan : ℕ) (s t : Sheet) → n ≡ length (payload l vs) → length (payload l vs) ≤ length before → ((i : ℕ) → get_or before i 0 < 256) → ((i : ℕ) → get_or after i 0 < 256)
+      → s ≡ record { place = 0; bits = bits_of before; loan = loan } → t ≡ lays l vs s → t.bits ≡ bits_of after → (Ok n, after) ≡ written (payload l vs) before
+  written-whole before after n loan s t len room b a e f g =
+      let front : after ≡ fronted (payload l vs) before = written-front l vs before after loan holds (omega (arith, length-payload l vs)) short (bytes-from before b) (bytes-from after a) (sym g ∙ ap (λ x. x.bits) (f ∙ ap (lays l vs) e)) in
       (λ i. (Ok (len i), front i)) ∙ sym (ap (λ c. cond c (Ok (length (payload l vs)), fronted (payload l vs) before) (Err (record {}), before)) (le-leb (length (payload l vs)) (length before) room))

@@ -1,4 +1,5 @@
-// Messages that begin with a cancel bit: one either ends what is in force of its kind, or brings something into force.
+// Messages that begin with a cancel bit: one either ends what is in force of its kind, which is `None`, or brings
+// something into force.
 ghost use Rattle.std.specs.Prelude.{◌≡◌, ℕ, ◌+◌, ◌/◌, ◌≤◌, List};
 ghost use Rattle.layouts.specs.Layout.{Layout, cancelable, extent, Holds};
 ghost use Rattle.fields.specs.Reading.{left};
@@ -12,12 +13,6 @@ use crate::record::Record;
 use fields::reader::Reader;
 use fields::writer::Writer;
 use layouts::fault::FieldFault;
-
-#[derive(Clone, Copy, PartialEq, Eq, Debug)]
-pub enum Cancelable<C> {
-    Cancel,
-    Set(C),
-}
 
 // What follows a cancel bit of 0, by its layout and its numbers, field after field.
 pub trait Body: Copy {
@@ -35,7 +30,6 @@ pub trait Body: Copy {
     // Writes the body's fields, to the payload's end.
     fn encode(&self, writer: &mut Writer)
         ensures after { sheet writer.new ≡ lays content (content_numbers self.now) (sheet writer.old) }
-        ensures lent { writer.new.bytes.ghost_name ≡ writer.old.bytes.ghost_name }
         ensures holds { Holds content (content_numbers self.now) };
 
     // No two bodies have the same numbers.
@@ -46,7 +40,7 @@ pub trait Body: Copy {
     ghost limited: { most ≤ 524279 };
 }
 
-impl<C: Body> Record for Cancelable<C> {
+impl<C: Body> Record for Option<C> {
     ghost layout = { cancelable C.Body.content };
 
     ghost numbers = { cancel_numbers C.Body.content_numbers };
@@ -59,21 +53,21 @@ impl<C: Body> Record for Cancelable<C> {
 
     ghost limited = { Prim.search rules };
 
-    fn decode(mut reader: Reader) -> Result<Cancelable<C>, FieldFault> {
+    fn decode(mut reader: Reader) -> Result<Option<C>, FieldFault> {
         if reader.flag()? {
             reader.close()?;
-            return Ok(Cancelable::Cancel);
+            return Ok(None);
         }
-        Ok(Cancelable::Set(C::decode(reader)?))
+        Ok(Some(C::decode(reader)?))
     }
 
     fn encode(&self, writer: &mut Writer) {
         match *self {
-            Cancelable::Cancel => {
+            None => {
                 writer.flag(true);
                 writer.close();
             }
-            Cancelable::Set(body) => {
+            Some(body) => {
                 writer.flag(false);
                 body.encode(writer);
             }

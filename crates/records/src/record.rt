@@ -27,7 +27,6 @@ pub trait Record: Sized {
     // Writes the record's fields, to its end.
     fn encode(&self, writer: &mut Writer)
         ensures after { sheet writer.new ≡ lays layout (numbers self.now) (sheet writer.old) }
-        ensures lent { writer.new.bytes.ghost_name ≡ writer.old.bytes.ghost_name }
         ensures holds { Holds layout (numbers self.now) };
 
     // The record of a payload. Written again it is the same bytes exactly where the payload is plain.

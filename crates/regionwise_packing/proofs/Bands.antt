@@ -50,7 +50,7 @@ module _ (s0 s1 : Left) (a b c d : ℕ) (widths : ReadFour 8 s0 a b c d s1) wher
       band-whole s4 v k l = behind-types l ∙ ap (before (a ∷ b ∷ c ∷ d ∷ n ∷ e ∷ f ∷ g ∷ h ∷ [])) (reserved-reads 3 l s3 s4 v k)
 
 -- a guard band that is written part by part
-pub band-written : (s0 s1 s2 s3 s4 : Sheet) (a b c d n e f g h : ℕ) → WritesFour 8 a b c d s0 s1 → s2 ≡ put (word 1 n) s1 → WritesFour 3 e f g h s2 s3 → s4 ≡ put (word 3 0) s3
+pub band-written : (s0 s1 s2 s3 s4 : Sheet) (a b c d n e f g h : ℕ) → WritesFour 8 (a, b, c, d) s0 s1 → s2 ≡ put (word 1 n) s1 → WritesFour 3 (e, f, g, h) s2 s3 → s4 ≡ put (word 3 0) s3
     → WritesGroup guard_band (a ∷ b ∷ c ∷ d ∷ n ∷ e ∷ f ∷ g ∷ h ∷ []) s0 s4
 band-written s0 s1 s2 s3 s4 a b c d n e f g h widths used types end l vs =
     widths (λ _ _ _ _. flag λ _. four 3 λ _ _ _ _. reserved 3 l) (n ∷ e ∷ f ∷ g ∷ h ∷ vs)

@@ -1,20 +1,37 @@
 -- A region that is read part by part and then judged.
-use Rattle.std.proofs.Common.{◌≡◌, ℕ, ◌+◌, ◌*◌, ◌<◌, Bool, true, false, cond, ◌&&◌, eqb, ltb, [], ◌∷◌, ◌++◌, is_some, Ok, Err, Option, sym, ap, ◌∙◌, arith}
+use Rattle.std.proofs.Common.{◌≡◌, ℕ, ◌+◌, ◌*◌, ◌<◌, Bool, true, false, cond, ◌&&◌, eqb, ltb, [], ◌∷◌, ◌++◌, is_some, Ok, Err, Option, Result, MatchResult, subst, sym, ap, ◌∙◌, arith}
 use Rattle.std.proofs.lemmas.Bool.{lt-ltb, and_parts}
 use Rattle.layouts.specs.declared.fault.FieldFault.{FieldFault}
 use Rattle.layouts.specs.declared.fault.FieldFault.TheVariants.{OutOfRange, PastLimit}
 use Rattle.layouts.specs.Bits.{bit}
 use Rattle.fields.specs.Groups.{before}
 use Rattle.layouts.specs.Layout.{Left, and_then, Verdict, fine, out_of_range, past_limit, judged, Layout, field, flag, judge, u, next, reads}
-use Rattle.fields.proofs.Groups.{bit_is, before-before, field-reads, field-err, reserved-reads, reserved-err, judge-reads, next_place}
+use Rattle.fields.proofs.Groups.{bit_is, before-before, field-reads, reserved-reads, judge-reads, next_place}
 use Rattle.regionwise_packing.specs.declared.guard_band.GuardBand.{GuardBand}
 use Rattle.regionwise_packing.specs.declared.region.Region.{Region}
 use Rattle.regionwise_packing.specs.declared.shapes.Rectangle.{Rectangle}
 use Rattle.regionwise_packing.specs.declared.shapes.Size.{Size}
 use Rattle.regionwise_packing.specs.Regions.{rectangle_numbers, spans, inside, judgement, four, rectangle, guard_band_if, region_bits, region}
 use Rattle.regionwise_packing.specs.Numbers.{option_numbers, region_numbers}
-use Rattle.regionwise_packing.specs.Makings.{proper}
+use Rattle.regionwise_packing.specs.Makings.{proper, MakesRegion}
+use Rattle.regionwise_packing.specs.Transforms.{transform_number}
 use Rattle.regionwise_packing.proofs.Bands.{ReadFour}
+
+-- a region that is made, and where it is not, refused at another place
+module _ (t : ℕ) (p k : Rectangle ℕ) (o : Option GuardBand) (made : Result Region FieldFault) (makes : MakesRegion 0 t p k o made) where
+  pub made-taken : (r : Region) → MatchResult made (λ x. ◌≡◌ {A = Result Region FieldFault} (Ok r) (Ok x)) (λ _. ⊥) → MakesRegion 0 t p k o (Ok r)
+  made-taken r e = taken made makes e
+    where
+      taken : (m : Result Region FieldFault) → MakesRegion 0 t p k o m → MatchResult m (λ x. ◌≡◌ {A = Result Region FieldFault} (Ok r) (Ok x)) (λ _. ⊥) → MakesRegion 0 t p k o (Ok r)
+      taken (Ok x) m f = subst (MakesRegion 0 t p k o) (sym f) m
+      taken (Err d) m f = absurd f
+
+  pub made-refused : (place : ℕ) (e : FieldFault) (Q : FieldFault → Type 0) → MatchResult made (λ x. ◌≡◌ {A = Result Region FieldFault} (Err e) (Ok x)) Q → ((d : FieldFault) → Q d → e ≡ OutOfRange place) → MakesRegion place t p k o (Err e)
+  made-refused place e Q f says = refused made makes f
+    where
+      refused : (m : Result Region FieldFault) → MakesRegion 0 t p k o m → MatchResult m (λ x. ◌≡◌ {A = Result Region FieldFault} (Err e) (Ok x)) Q → MakesRegion place t p k o (Err e)
+      refused (Ok x) m g = subst (MakesRegion place t p k o) (sym g) m
+      refused (Err d) m g = (m.0, says d g)
 
 -- ---- what is left of a region behind its parts
 
@@ -40,22 +57,13 @@ region-place : (s0 s1 s2 s3 s4 s5 s6 : Left) (n t : ℕ) (g : Bool) → next (u 
 region-place s0 s1 s2 s3 s4 s5 s6 n t true a b c d e f = omega (arith, next_place 4 n s0 s1 a, next_place 3 t s1 s2 b, next_place 1 1 s2 s3 c)
 region-place s0 s1 s2 s3 s4 s5 s6 n t false a b c d e f = omega (arith, next_place 4 n s0 s1 a, next_place 3 t s1 s2 b, next_place 1 0 s2 s3 c)
 
-pub region-none : (z : Size ℕ) (s0 : Left) (e : FieldFault) → next (u 4) s0 ≡ Err e → (l : Layout) → reads (region z l) s0 ≡ Err e
-region-none z s0 e f l = reserved-err 4 (turn_rest z l) s0 e f
-
 module _ (z : Size ℕ) (s0 s1 : Left) (n : ℕ) (blank : next (u 4) s0 ≡ Ok (n, s1)) where
   behind-blank : (l : Layout) → reads (region z l) s0 ≡ reads (turn_rest z l) s1
   behind-blank l = reserved-reads 4 (turn_rest z l) s0 s1 n blank
 
-  pub region-blank : (e : FieldFault) → next (u 3) s1 ≡ Err e → (l : Layout) → reads (region z l) s0 ≡ Err e
-  region-blank e f l = behind-blank l ∙ field-err (u 3) (λ _. guard_rest z l) s1 e f
-
   module _ (s2 : Left) (t : ℕ) (turn : next (u 3) s1 ≡ Ok (t, s2)) where
     behind-turn : (l : Layout) → reads (region z l) s0 ≡ before (t ∷ []) (reads (guard_rest z l) s2)
     behind-turn l = behind-blank l ∙ field-reads (u 3) (λ _. guard_rest z l) s1 s2 t turn
-
-    pub region-turn : (e : FieldFault) → next (u 1) s2 ≡ Err e → (l : Layout) → reads (region z l) s0 ≡ Err e
-    region-turn e f l = behind-turn l ∙ ap (before (t ∷ [])) (field-err (u 1) (λ v. projected_rest z (eqb v 1) l) s2 e f)
 
     module _ (s3 : Left) (g : Bool) (has : next (u 1) s2 ≡ Ok (bit g, s3)) where
       behind-guard : (l : Layout) → reads (region z l) s0 ≡ before (t ∷ bit g ∷ []) (reads (projected_rest z g l) s3)
@@ -105,7 +113,7 @@ module _ (z : Size ℕ) (s0 s1 : Left) (n : ℕ) (blank : next (u 4) s0 ≡ Ok (
                 let f : spans p k ≡ false = sym (ap (λ x. x && spans p k) (lt-ltb t 8 b)) ∙ c in
                 verdict-is out_of_range (ap (λ x. cond x (cond (inside z k) fine past_limit) out_of_range) f) l ∙ ap (λ x. Err (OutOfRange x)) (sym a) ∙ ap Err (sym d)
 
-            module _ (r : Region) (made : (proper t p k ≡ true) × (r.transform ≡ t) × (r.projected ≡ p) × (r.packed ≡ k) × (r.guard ≡ o)) where
+            module _ (r : Region) (made : (proper t p k ≡ true) × (transform_number r.transform ≡ t) × (r.projected ≡ p) × (r.packed ≡ k) × (r.guard ≡ o)) where
               spanned : spans p k ≡ true
               spanned = (and_parts (ltb t 8) (spans p k) made.0).1
 

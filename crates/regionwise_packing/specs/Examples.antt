@@ -1,21 +1,12 @@
 -- Payloads of region-wise packing with what they come to.
-use Rattle.std.specs.Prelude.{◌≡◌, ℕ, List, [], ◌∷◌, Some, None}
+use Rattle.std.specs.Prelude.{◌≡◌, [], ◌∷◌, None}
 use Rattle.layouts.specs.declared.fault.FieldFault.TheVariants.{Short, OutOfRange, PastLimit, Ending}
 use Rattle.records.specs.declared.fault.PayloadFault.TheVariants.{Field}
 use Rattle.kinds.specs.declared.fault.OfferFault.TheVariants.{Payload}
-use Rattle.kinds.specs.declared.in_force.Stay.{Stay}
 use Rattle.kinds.specs.declared.in_force.Stay.TheVariants.{Once, Stays}
-use Rattle.kinds.specs.Outcome.{Outcome, granted, refused}
-use Rattle.kinds.specs.Single.{Rules, Held, single}
+use Rattle.kinds.specs.Examples.{held, offer}
+use Rattle.kinds.specs.Outcome.{granted, refused}
 use Rattle.regionwise_packing.specs.Rules.{packing_rules}
-
--- a content in force
-abbrev held : Stay → List ℕ → Held
-held stay vs = Some (record { content = vs; stay = stay })
-
--- an offer to what is in force
-abbrev offer : Rules → Held → List ℕ → Outcome Held
-offer r m p = (single r).offered m p
 
 pub record Examples : Type 0 where
   -- a region that fills the packed picture

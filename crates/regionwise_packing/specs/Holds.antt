@@ -1,11 +1,12 @@
 -- A packing's numbers are those of a payload.
-use Rattle.std.specs.Prelude.{◌≡◌, ℕ, ◌^◌, ◌<◌, ◌≤◌, Bool, true, false, cond, List, [], ◌∷◌, ◌++◌, length, is_some, Some, None, Option, ◌==◌, nat_le}
+use Rattle.std.specs.Prelude.{◌≡◌, ℕ, ◌<◌, ◌≤◌, Bool, true, cond, List, [], ◌∷◌, ◌++◌, length, is_some, Some, None, Option, ◌==◌, nat_le}
 use Rattle.std.proofs.Common.{ap, ◌∙◌, arith}
 use Rattle.std.proofs.lemmas.Bool.{and_parts, and_from, lt-ltb, le-leb, ne_eqb}
 use Rattle.layouts.specs.Bits.{bit}
 use Rattle.bounded.specs.Bounded.{items}
 use Rattle.layouts.specs.Layout.{Verdict, fine, out_of_range, past_limit, positive, counted, Layout, close, judge, times, Holds}
 use Rattle.bounded.proofs.Cells.{items-few}
+use Rattle.records.proofs.Same.{bit_below}
 use Rattle.regionwise_packing.specs.declared.RegionwisePacking.{RegionwisePacking}
 use Rattle.regionwise_packing.specs.declared.guard_band.GuardBand.{GuardBand}
 use Rattle.regionwise_packing.specs.declared.region.Region.{Region}
@@ -13,10 +14,7 @@ use Rattle.regionwise_packing.specs.declared.shapes.Size.{Size}
 use Rattle.regionwise_packing.specs.Regions.{spans, inside, judgement, guard_band_if, region_bits, region}
 use Rattle.regionwise_packing.specs.Numbers.{option_numbers, region_numbers, regions_numbers, all_inside}
 use Rattle.regionwise_packing.specs.Packing.{content, content_numbers}
-
-bit-small : (b : Bool) → bit b < 2 ^ 1
-bit-small true = omega arith
-bit-small false = omega arith
+use Rattle.regionwise_packing.specs.Transforms.{transform-below}
 
 pub positive-fine : (n : ℕ) → 0 < n → positive n ≡ fine
 positive-fine n h = ap (λ b. cond b out_of_range fine) (ne_eqb n 0 (λ e. omega arith))
@@ -37,13 +35,13 @@ guard-holds None n v l vs e h = (e, h)
 guard-holds (Some g) n v l vs e h =
     let w = g.narrow in
     let t = g.typed in
-    (w.0.0, (w.0.1, (w.1.0, (w.1.1, (bit-small g.not_used, (t.0.0, (t.0.1, (t.1.0, (t.1.1, (e, h))))))))))
+    (w.0.0, (w.0.1, (w.1.0, (w.1.1, (bit_below g.not_used, (t.0.0, (t.0.1, (t.1.0, (t.1.1, (e, h))))))))))
 
 region-holds : (z : Size ℕ) (r : Region) (l : Layout) (vs : List ℕ) → inside z r.packed ≡ true → Holds l vs → Holds (region z l) (region_numbers r ++ vs)
 region-holds z r l vs e h =
     let p = r.wide in
     let k = r.narrow in
-    (r.turned, (bit-small (is_some r.guard), (p.0.0.1, (p.0.1.1, (p.1.0, (p.1.1, (k.0.0.1, (k.0.1.1, (k.1.0, (k.1.1, guard-holds r.guard region_bits (judgement z r.projected r.packed) l vs (region-fine z r e) h))))))))))
+    (transform-below r.transform, (bit_below (is_some r.guard), (p.0.0.1, (p.0.1.1, (p.1.0, (p.1.1, (k.0.0.1, (k.0.1.1, (k.1.0, (k.1.1, guard-holds r.guard region_bits (judgement z r.projected r.packed) l vs (region-fine z r e) h))))))))))
 
 regions-holds : (z : Size ℕ) (rs : List Region) → all_inside z rs ≡ true → Holds (times (length rs) (region z) close) (regions_numbers rs)
 regions-holds z [] e = tt
@@ -55,9 +53,9 @@ pub packing-holds : (p : RegionwisePacking) → Holds content (content_numbers p
 packing-holds p =
     let n = length (items p.regions) in
     let few = items-few p.regions in (
-      bit-small p.persistence,
+      bit_below p.persistence,
       (
-        bit-small p.matching,
+        bit_below p.matching,
         (
           (omega (arith, few), counted-fine 32 n p.some few),
           (

@@ -7,4 +7,5 @@ pub mod Packing
 pub mod Regions
 pub mod Rules
 pub mod Rulings
+pub mod Transforms
 pub mod Packings

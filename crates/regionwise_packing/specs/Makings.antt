@@ -12,20 +12,32 @@ use Rattle.regionwise_packing.specs.declared.region.Region.{Region}
 use Rattle.regionwise_packing.specs.declared.shapes.Rectangle.{Rectangle}
 use Rattle.regionwise_packing.specs.declared.shapes.Sides.{Sides}
 use Rattle.regionwise_packing.specs.Regions.{four, spans}
+use Rattle.regionwise_packing.specs.Transforms.{transform_number}
 
 -- ---- four fields
 
 abbrev pub Four : Type 0
 Four = ℕ × ℕ × ℕ × ℕ
 
+abbrev pub rectangle_four : Rectangle ℕ → Four
+rectangle_four r = (r.width, r.height, r.top, r.left)
+
+abbrev pub sides_four : Sides ℕ → Four
+sides_four s = (s.left, s.right, s.top, s.bottom)
+
 -- a reader that is asked for four fields of w bits, whatever follows them
 abbrev pub ReadsFour : ℕ → Reader → Result Four FieldFault → Reader → Type 0
 ReadsFour w r (Ok x) q = (l : ℕ → ℕ → ℕ → ℕ → Layout) → reads (four w l) (left r) ≡ before (x.0 ∷ x.1 ∷ x.2 ∷ x.3 ∷ []) (reads (l x.0 x.1 x.2 x.3) (left q))
 ReadsFour w r (Err e) q = (l : ℕ → ℕ → ℕ → ℕ → Layout) → reads (four w l) (left r) ≡ Err e
 
+-- the same of a shape that has four numbers
+abbrev pub ReadsShape : {A : Type 0} → (A → Four) → ℕ → Reader → Result A FieldFault → Reader → Type 0
+ReadsShape numbers w r (Ok a) q = ReadsFour w r (Ok (numbers a)) q
+ReadsShape numbers w r (Err e) q = ReadsFour w r (Err e) q
+
 -- four numbers of w bits lead from one sheet to another, whatever follows them
-abbrev pub WritesFour : ℕ → ℕ → ℕ → ℕ → ℕ → Sheet → Sheet → Type 0
-WritesFour w a b c d s t = (l : ℕ → ℕ → ℕ → ℕ → Layout) (vs : List ℕ) → lays (four w l) (a ∷ b ∷ c ∷ d ∷ vs) s ≡ lays (l a b c d) vs t
+abbrev pub WritesFour : ℕ → Four → Sheet → Sheet → Type 0
+WritesFour w x s t = (l : ℕ → ℕ → ℕ → ℕ → Layout) (vs : List ℕ) → lays (four w l) (x.0 ∷ x.1 ∷ x.2 ∷ x.3 ∷ vs) s ≡ lays (l x.0 x.1 x.2 x.3) vs t
 
 abbrev pub FourBelow : ℕ → Four → Type 0
 FourBelow bound x = (x.0 < bound) × (x.1 < bound) × (x.2 < bound) × (x.3 < bound)
@@ -46,5 +58,5 @@ proper transform projected packed = nat_lt transform 8 && spans projected packed
 
 -- a region of these parts, or the refusal at a place
 abbrev pub MakesRegion : ℕ → ℕ → Rectangle ℕ → Rectangle ℕ → Option GuardBand → Result Region FieldFault → Type 0
-MakesRegion place transform projected packed guard (Ok r) = (proper transform projected packed ≡ true) × (r.transform ≡ transform) × (r.projected ≡ projected) × (r.packed ≡ packed) × (r.guard ≡ guard)
+MakesRegion place transform projected packed guard (Ok r) = (proper transform projected packed ≡ true) × (transform_number r.transform ≡ transform) × (r.projected ≡ projected) × (r.packed ≡ packed) × (r.guard ≡ guard)
 MakesRegion place transform projected packed guard (Err e) = (proper transform projected packed ≡ false) × (e ≡ OutOfRange place)

@@ -5,6 +5,7 @@ use Rattle.regionwise_packing.specs.declared.guard_band.GuardBand.{GuardBand}
 use Rattle.regionwise_packing.specs.declared.region.Region.{Region}
 use Rattle.regionwise_packing.specs.declared.shapes.Size.{Size}
 use Rattle.regionwise_packing.specs.Regions.{rectangle_numbers, sides_numbers, inside}
+use Rattle.regionwise_packing.specs.Transforms.{transform_number}
 
 abbrev pub band_numbers : GuardBand → List ℕ
 band_numbers g = sides_numbers g.widths ++ (bit g.not_used ∷ sides_numbers g.types)
@@ -15,7 +16,7 @@ option_numbers None = []
 option_numbers (Some g) = band_numbers g
 
 abbrev pub region_numbers : Region → List ℕ
-region_numbers r = r.transform ∷ bit (is_some r.guard) ∷ (rectangle_numbers r.projected ++ (rectangle_numbers r.packed ++ option_numbers r.guard))
+region_numbers r = transform_number r.transform ∷ bit (is_some r.guard) ∷ (rectangle_numbers r.projected ++ (rectangle_numbers r.packed ++ option_numbers r.guard))
 
 abbrev pub regions_numbers : List Region → List ℕ
 regions_numbers [] = []

@@ -8,8 +8,7 @@ use Rattle.bounded.specs.Bounded.{items}
 use Rattle.fields.specs.Groups.{before}
 use Rattle.layouts.specs.Layout.{Verdict, fine, out_of_range, past_limit, judged, positive, counted, Layout, close, reserved, field, flag, cancelable, times, u, within, reads}
 use Rattle.fields.specs.Reading.{left}
-use Rattle.regionwise_packing.specs.declared.message.RegionwisePackingMessage.{RegionwisePackingMessage}
-use Rattle.regionwise_packing.specs.declared.message.RegionwisePackingMessage.TheVariants.{Cancel, Set}
+use Rattle.records.specs.Cancelable.{cancel_numbers}
 use Rattle.regionwise_packing.specs.declared.RegionwisePacking.{RegionwisePacking}
 use Rattle.regionwise_packing.specs.declared.region.Region.{Region}
 use Rattle.regionwise_packing.specs.declared.shapes.Size.{Size}
@@ -41,9 +40,8 @@ content_numbers p = bit p.persistence ∷ bit p.matching ∷ length (items p.reg
 abbrev pub layout : Layout
 layout = cancelable content
 
-abbrev pub numbers : RegionwisePackingMessage → List ℕ
-numbers Cancel = 1 ∷ []
-numbers (Set p) = 0 ∷ content_numbers p
+abbrev pub numbers : Option RegionwisePacking → List ℕ
+numbers = cancel_numbers content_numbers
 
 -- ---- reading
 

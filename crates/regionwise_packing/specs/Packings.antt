@@ -12,10 +12,22 @@ use Rattle.regionwise_packing.specs.declared.guard_band.GuardBand.{GuardBand}
 use Rattle.regionwise_packing.specs.declared.region.Region.{Region}
 use Rattle.regionwise_packing.specs.declared.shapes.Rectangle.{Rectangle}
 use Rattle.regionwise_packing.specs.declared.shapes.Sides.{Sides}
+use Rattle.regionwise_packing.specs.declared.shapes.Size.{Size}
 use Rattle.regionwise_packing.specs.Regions.{Sized, Spans, Below, rectangle_numbers, sides_numbers}
 use Rattle.regionwise_packing.specs.Numbers.{band_numbers, option_numbers, region_numbers, regions_numbers, all_inside}
 use Rattle.regionwise_packing.specs.Packing.{content_numbers}
+use Rattle.regionwise_packing.specs.Transforms.{transform-same}
 use Rattle.records.proofs.Same.{bit-same}
+
+-- each of these facts has one proof at most
+below-prop : (b : ℕ) (s : Sides ℕ) → IsProp (Below b s)
+below-prop b s = ×_prop (×_prop le_prop le_prop) (×_prop le_prop le_prop)
+
+sized-prop : (b : ℕ) (s : Size ℕ) → IsProp (Sized b s)
+sized-prop b s = ×_prop (×_prop le_prop le_prop) (×_prop le_prop le_prop)
+
+spans-prop : (b : ℕ) (r : Rectangle ℕ) → IsProp (Spans b r)
+spans-prop b r = ×_prop (×_prop (×_prop le_prop le_prop) (×_prop le_prop le_prop)) (×_prop le_prop le_prop)
 
 rectangle-same : (r q : Rectangle ℕ) (xs ys : List ℕ) → rectangle_numbers r ++ xs ≡ rectangle_numbers q ++ ys → (r ≡ q) × (xs ≡ ys)
 rectangle-same r q xs ys e = (λ i. record { width = slice_index (e i) 0; height = slice_index (e i) 1; top = slice_index (e i) 2; left = slice_index (e i) 3 }, ap (drop 4) e)
@@ -32,8 +44,8 @@ band-same g h xs ys e =
         widths = widths.0 i;
         not_used = used i;
         types = types.0 i;
-        narrow = is_prop→PathP (λ j. Below 256 (widths.0 j)) (λ j. ×_prop (×_prop le_prop le_prop) (×_prop le_prop le_prop)) g.narrow h.narrow i;
-        typed = is_prop→PathP (λ j. Below 8 (types.0 j)) (λ j. ×_prop (×_prop le_prop le_prop) (×_prop le_prop le_prop)) g.typed h.typed i;
+        narrow = is_prop→PathP (λ j. Below 256 (widths.0 j)) (λ j. below-prop 256 (widths.0 j)) g.narrow h.narrow i;
+        typed = is_prop→PathP (λ j. Below 8 (types.0 j)) (λ j. below-prop 8 (types.0 j)) g.typed h.typed i;
       },
       types.1,
     )
@@ -46,18 +58,17 @@ option-same (Some g) (Some h) xs ys b e = let s = band-same g h xs ys e in (ap S
 
 region-same : (r q : Region) (xs ys : List ℕ) → region_numbers r ++ xs ≡ region_numbers q ++ ys → (r ≡ q) × (xs ≡ ys)
 region-same r q xs ys e =
-    let turned = ap (λ l. slice_index l 0) e in
+    let transform = transform-same r.transform q.transform (ap (λ l. slice_index l 0) e) in
     let wide = rectangle-same r.projected q.projected (rectangle_numbers r.packed ++ (option_numbers r.guard ++ xs)) (rectangle_numbers q.packed ++ (option_numbers q.guard ++ ys)) (ap (drop 2) e) in
     let narrow = rectangle-same r.packed q.packed (option_numbers r.guard ++ xs) (option_numbers q.guard ++ ys) wide.1 in
     let guard = option-same r.guard q.guard xs ys (ap (λ l. slice_index l 1) e) narrow.1 in (
       λ i. record {
-        transform = turned i;
+        transform = transform i;
         projected = wide.0 i;
         packed = narrow.0 i;
         guard = guard.0 i;
-        turned = is_prop→PathP (λ j. turned j < 8) (λ j. le_prop) r.turned q.turned i;
-        wide = is_prop→PathP (λ j. Spans (2 ^ 32) (wide.0 j)) (λ j. ×_prop (×_prop (×_prop le_prop le_prop) (×_prop le_prop le_prop)) (×_prop le_prop le_prop)) r.wide q.wide i;
-        narrow = is_prop→PathP (λ j. Spans (2 ^ 16) (narrow.0 j)) (λ j. ×_prop (×_prop (×_prop le_prop le_prop) (×_prop le_prop le_prop)) (×_prop le_prop le_prop)) r.narrow q.narrow i;
+        wide = is_prop→PathP (λ j. Spans (2 ^ 32) (wide.0 j)) (λ j. spans-prop (2 ^ 32) (wide.0 j)) r.wide q.wide i;
+        narrow = is_prop→PathP (λ j. Spans (2 ^ 16) (narrow.0 j)) (λ j. spans-prop (2 ^ 16) (narrow.0 j)) r.narrow q.narrow i;
       },
       guard.1,
     )
@@ -83,8 +94,8 @@ packing-same p q e =
       projected = projected i;
       packed = packed i;
       regions = regions i;
-      wide = is_prop→PathP (λ j. Sized (2 ^ 32) (projected j)) (λ j. ×_prop (×_prop le_prop le_prop) (×_prop le_prop le_prop)) p.wide q.wide i;
-      narrow = is_prop→PathP (λ j. Sized (2 ^ 16) (packed j)) (λ j. ×_prop (×_prop le_prop le_prop) (×_prop le_prop le_prop)) p.narrow q.narrow i;
+      wide = is_prop→PathP (λ j. Sized (2 ^ 32) (projected j)) (λ j. sized-prop (2 ^ 32) (projected j)) p.wide q.wide i;
+      narrow = is_prop→PathP (λ j. Sized (2 ^ 16) (packed j)) (λ j. sized-prop (2 ^ 16) (packed j)) p.narrow q.narrow i;
       some = is_prop→PathP (λ j. 0 < length (items (regions j))) (λ j. le_prop) p.some q.some i;
       within = is_prop→PathP (λ j. all_inside (packed j) (items (regions j)) ≡ true) (λ j. Bool-set (all_inside (packed j) (items (regions j))) true) p.within q.within i;
     }

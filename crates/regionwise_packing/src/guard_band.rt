@@ -10,7 +10,7 @@ pub struct GuardBand {
     pub widths: Sides<u8>,
     // whether its samples are not used for prediction
     pub not_used: bool,
-    // what its samples are, below 8
+    // what its samples are, below 8; numbers, since 4 to 7 are reserved and kept as they are
     pub types: Sides<u8>,
     ghost narrow: { Below 256 widths },
     ghost typed: { Below 8 types },

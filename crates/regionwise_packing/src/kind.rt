@@ -1,61 +1,28 @@
 // Type 155, region-wise packing, as a kind.
-ghost use Rattle.regionwise_packing.specs.Packing.{content_numbers};
+ghost use Rattle.std.proofs.Common.{arith};
 ghost use Rattle.regionwise_packing.specs.Rules.{packing_rules};
-ghost use Rattle.regionwise_packing.specs.Rulings.{packing_ruled, packing_proper};
+ghost use Rattle.regionwise_packing.specs.Rulings.{packing_proper};
 
 use crate::RegionwisePacking;
-use crate::message::RegionwisePackingMessage;
-use kinds::content::Content;
+use kinds::canceling::Canceling;
 use kinds::in_force::Stay;
-use layouts::fault::ShortBuffer;
-use records::fault::PayloadFault;
-use records::record::Record;
 
-impl Content for RegionwisePacking {
+impl Canceling for RegionwisePacking {
+    ghost TYPE = { packing_rules.number };
+
     const TYPE: u32 = 155;
+
+    ghost GREATEST = { packing_rules.greatest };
 
     const GREATEST: usize = 1_011;
 
-    ghost rules = { packing_rules };
+    ghost stays = { packing_rules.stay };
 
-    ghost ruled = { packing_ruled };
-
-    ghost numbers = { content_numbers };
+    fn stay(&self) -> Stay {
+        Stay::from(self.persistence)
+    }
 
     ghost proper = { packing_proper };
 
-    fn type_number() -> u32 {
-        Self::TYPE
-    }
-
-    fn greatest_length() -> usize {
-        Self::GREATEST
-    }
-
-    fn read(payload: &[u8]) -> Result<Option<RegionwisePacking>, PayloadFault> {
-        match <RegionwisePackingMessage as Record>::read(payload)? {
-            RegionwisePackingMessage::Cancel => Ok(None),
-            RegionwisePackingMessage::Set(packing) => Ok(Some(packing)),
-        }
-    }
-
-    fn payload_len(&self) -> usize {
-        RegionwisePackingMessage::Set(*self).payload_len()
-    }
-
-    fn write(&self, buffer: &mut [u8]) -> Result<usize, ShortBuffer> {
-        RegionwisePackingMessage::Set(*self).write(buffer)
-    }
-
-    fn stay(&self) -> Stay {
-        if self.persistence {
-            Stay::Stays
-        } else {
-            Stay::Once
-        }
-    }
-
-    fn agrees(&self, _held: &RegionwisePacking) -> bool {
-        true
-    }
+    ghost framed = { omega arith };
 }

@@ -15,16 +15,16 @@ pub mod examples;
 mod four;
 pub mod guard_band;
 pub mod kind;
-pub mod message;
 mod methods;
 pub mod record;
 pub mod region;
 pub mod shapes;
 #[cfg(test)]
 mod tests;
+pub mod transform;
 
 // 1 to 32 regions, each of them inside the packed picture.
-#[derive(Clone, Copy)]
+#[derive(Clone, Copy, PartialEq, Eq, Debug)]
 pub struct RegionwisePacking {
     // whether it stays in force beyond its picture
     pub persistence: bool,

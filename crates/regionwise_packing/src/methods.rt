@@ -2,14 +2,13 @@
 ghost use Rattle.std.specs.Prelude.{◌≡◌, ℕ, ◌^◌, ◌≤◌, true, length, IfOk};
 ghost use Rattle.bounded.specs.Bounded.{items};
 ghost use Rattle.fields.specs.Groups.{ReadsGroup, WritesGroup};
-ghost use Rattle.layouts.specs.Layout.{times, Holds};
+ghost use Rattle.layouts.specs.Layout.{times};
 ghost use Rattle.fields.specs.Reading.{left};
-ghost use Rattle.fields.specs.Writing.{sheet, lays};
-ghost use Rattle.records.specs.Record.{Decoded};
+ghost use Rattle.fields.specs.Writing.{sheet};
 ghost use Rattle.regionwise_packing.specs.declared.shapes.Size.{Size as SizeOf};
 ghost use Rattle.regionwise_packing.specs.Regions.{Sized, region as region_fields};
 ghost use Rattle.regionwise_packing.specs.Numbers.{regions_numbers, all_inside};
-ghost use Rattle.regionwise_packing.specs.Packing.{packing, content, content_numbers, ReadsSizes, Gathers, MakesPacking};
+ghost use Rattle.regionwise_packing.specs.Packing.{packing, content_numbers, ReadsSizes, Gathers, MakesPacking};
 
 use crate::RegionwisePacking;
 use crate::region::Region;
@@ -43,9 +42,7 @@ impl RegionwisePacking {
         {
             return Err(FieldFault::OutOfRange(0));
         }
-        let Some(regions) = gathered(packed, regions) else {
-            return Err(FieldFault::PastLimit(0));
-        };
+        let regions = gathered(packed, regions).ok_or(FieldFault::PastLimit(0))?;
         Ok(RegionwisePacking {
             persistence,
             matching,
@@ -55,26 +52,8 @@ impl RegionwisePacking {
         })
     }
 
-    // What follows the cancel bit, to its end.
-    pub(crate) fn read_to_end(mut reader: Reader) -> Result<RegionwisePacking, FieldFault>
-        ensures { Decoded content content_numbers (left reader.entry) result }
-    {
-        let packing = RegionwisePacking::read_content(&mut reader)?;
-        reader.close()?;
-        Ok(packing)
-    }
-
-    pub(crate) fn write_to_end(&self, writer: &mut Writer)
-        ensures after { sheet writer.new ≡ lays content (content_numbers self.now) (sheet writer.old) }
-        ensures lent { writer.new.bytes.ghost_name ≡ writer.old.bytes.ghost_name }
-        ensures holds { Holds content (content_numbers self.now) }
-    {
-        self.write_content(writer);
-        writer.close();
-    }
-
     // The fields behind the cancel bit.
-    fn read_content(reader: &mut Reader) -> Result<RegionwisePacking, FieldFault>
+    pub(crate) fn read_content(reader: &mut Reader) -> Result<RegionwisePacking, FieldFault>
         ensures { ReadsGroup packing content_numbers reader.old result reader.new }
     {
         let persistence = reader.flag()?;
@@ -92,9 +71,8 @@ impl RegionwisePacking {
         })
     }
 
-    fn write_content(&self, writer: &mut Writer)
+    pub(crate) fn write_content(&self, writer: &mut Writer)
         ensures after { WritesGroup packing (content_numbers self.now) (sheet writer.old) (sheet writer.new) }
-        ensures lent { writer.new.bytes.ghost_name ≡ writer.old.bytes.ghost_name }
     {
         writer.flag(self.persistence);
         writer.flag(self.matching);
@@ -102,8 +80,8 @@ impl RegionwisePacking {
         writer.bits(8, self.regions.len() as u32);
         writer.bits(32, self.projected.width);
         writer.bits(32, self.projected.height);
-        writer.bits(16, self.packed.width as u32);
-        writer.bits(16, self.packed.height as u32);
+        writer.bits(16, u32::from(self.packed.width));
+        writer.bits(16, u32::from(self.packed.height));
         write_regions(writer, &self.regions);
     }
 }
@@ -154,7 +132,8 @@ fn read_regions(
     ensures inside { IfOk result (λ b. (length (items b) ≡ count) × (all_inside picture (items b) ≡ true)) }
 {
     let mut regions = Bounded::new();
-    for _i in 0..count {
+    // a region is read again and again, there is nothing to go over
+    for _ in 0..count {
         let region = Region::read(reader, picture)?;
         let _ = regions.push(region);
     }
@@ -164,12 +143,8 @@ fn read_regions(
 // The regions, one after the other.
 fn write_regions(writer: &mut Writer, regions: &Bounded<Region, 32>)
     ensures after { (picture : SizeOf ℕ) → WritesGroup (times (length (items regions.now)) (region_fields picture)) (regions_numbers (items regions.now)) (sheet writer.old) (sheet writer.new) }
-    ensures lent { writer.new.bytes.ghost_name ≡ writer.old.bytes.ghost_name }
 {
-    let count = regions.len();
-    for i in 0..count {
-        if let Some(region) = regions.get(i) {
-            region.write(writer);
-        }
+    for region in *regions {
+        region.write(writer);
     }
 }

@@ -1,58 +1,36 @@
-// A region-wise packing as a record.
-ghost use Rattle.regionwise_packing.specs.Packing.{layout as packing_layout, numbers as packing_numbers, content};
-ghost use Rattle.std.proofs.Common.{ap, arith, rules};
-ghost use Rattle.std.specs.Prelude.{drop, slice_index, refl};
-ghost use Rattle.regionwise_packing.specs.declared.message.RegionwisePackingMessage.TheVariants.{Cancel, Set};
+// A region-wise packing as the body of a record: what follows its cancel bit.
+ghost use Rattle.regionwise_packing.specs.Packing.{content as packing_content, content_numbers as packing_numbers};
+ghost use Rattle.std.proofs.Common.{rules};
 ghost use Rattle.regionwise_packing.specs.Packings.{packing-same};
-ghost use Rattle.layouts.proofs.Extents.{takes-cancelable};
 ghost use Rattle.regionwise_packing.specs.Lengths.{takes-content};
 
 use crate::RegionwisePacking;
-use crate::message::RegionwisePackingMessage;
 use fields::reader::Reader;
 use fields::writer::Writer;
 use layouts::fault::FieldFault;
-use records::record::Record;
+use records::cancelable::Body;
 
-impl Record for RegionwisePackingMessage {
-    ghost layout = { packing_layout };
+impl Body for RegionwisePacking {
+    ghost content = { packing_content };
 
-    ghost numbers = { packing_numbers };
+    ghost content_numbers = { packing_numbers };
 
-    ghost greatest = { 1006 };
+    ghost most = { 8047 };
 
-    ghost apart = { elim [
-      | Cancel ↦ elim [ Cancel ↦ λ e. refl | Set q ↦ λ e. absurd (omega (arith, ap (λ l. slice_index l 0) e)) ]
-      | Set p ↦
-          elim [
-            | Cancel ↦ λ e. absurd (omega (arith, ap (λ l. slice_index l 0) e))
-            | Set q ↦ λ e. ap Set (packing-same p q (ap (drop 1) e))
-          ]
-    ] };
-
-    ghost short = { λ vs h. omega (arith, takes-cancelable 8047 content takes-content vs h) };
-
-    ghost limited = { Prim.search rules };
-
-    fn decode(mut reader: Reader) -> Result<RegionwisePackingMessage, FieldFault> {
-        if reader.flag()? {
-            reader.close()?;
-            return Ok(RegionwisePackingMessage::Cancel);
-        }
-        let packing = RegionwisePacking::read_to_end(reader)?;
-        Ok(RegionwisePackingMessage::Set(packing))
+    fn decode(mut reader: Reader) -> Result<RegionwisePacking, FieldFault> {
+        let packing = RegionwisePacking::read_content(&mut reader)?;
+        reader.close()?;
+        Ok(packing)
     }
 
     fn encode(&self, writer: &mut Writer) {
-        match *self {
-            RegionwisePackingMessage::Cancel => {
-                writer.flag(true);
-                writer.close();
-            }
-            RegionwisePackingMessage::Set(packing) => {
-                writer.flag(false);
-                packing.write_to_end(writer);
-            }
-        }
+        self.write_content(writer);
+        writer.close();
     }
+
+    ghost apart = { packing-same };
+
+    ghost short = { takes-content };
+
+    ghost limited = { Prim.search rules };
 }

@@ -1,7 +1,6 @@
 // Payloads at the edges of what is taken, and packings that are written and read again.
 use crate::RegionwisePacking;
 use crate::guard_band::GuardBand;
-use crate::message::RegionwisePackingMessage;
 use crate::region::Region;
 use crate::shapes::{Rectangle, Sides, Size};
 use kinds::content::Content;
@@ -23,9 +22,9 @@ const STARTS: [usize; 62] = [
     802, 805,
 ];
 
-// The number and the place of a payload's refusal, or 0 and 0 where it is taken.
+// The number and the place of a payload's refusal, as they are told, or 0 and 0 where it is taken.
 fn told(payload: &[u8]) -> (u8, usize) {
-    match <RegionwisePackingMessage as Record>::read(payload) {
+    match Option::<RegionwisePacking>::read(payload) {
         Ok(_) => (0, 0),
         Err(fault) => (fault.number(), fault.place()),
     }
@@ -42,13 +41,12 @@ fn told_with(index: usize, value: u8) -> (u8, usize) {
 
 // The field that is cut where a payload of three regions ends at a bit.
 fn cut(end: usize) -> usize {
-    let mut first = 0;
-    for start in STARTS {
-        if start <= end {
-            first = start;
-        }
-    }
-    first
+    STARTS
+        .iter()
+        .rev()
+        .copied()
+        .find(|start| *start <= end)
+        .unwrap_or(0)
 }
 
 fn guarded() -> Result<Region, FieldFault> {
@@ -136,11 +134,11 @@ fn cancel(rt: HostRuntime) -> Result<(), Fail> {
     assert_eq!(rt; told(&[0xC0]), (0, 0));
     assert_eq!(rt; told(&[0x80]), (9, 1), "it does not close");
     assert_eq!(rt; told(&[0xC0, 0x80]), (9, 1));
-    match <RegionwisePackingMessage as Record>::read(&[0xC0])? {
-        RegionwisePackingMessage::Cancel => {}
-        RegionwisePackingMessage::Set(_) => return Err(Fail::new("C0 cancels")),
+    match Option::<RegionwisePacking>::read(&[0xC0])? {
+        None => {}
+        Some(_) => return Err(Fail::new("C0 cancels")),
     }
-    assert_eq!(rt; RegionwisePackingMessage::Cancel.write(&mut buffer)?, 1);
+    assert_eq!(rt; None::<RegionwisePacking>.write(&mut buffer)?, 1);
     assert_eq!(rt; buffer, [0xC0, 7]);
     Ok(())
 }
@@ -148,9 +146,10 @@ fn cancel(rt: HostRuntime) -> Result<(), Fail> {
 #[test]
 fn every_truncation(rt: HostRuntime) -> Result<(), Fail> {
     let first = guarded()?;
-    let message = RegionwisePackingMessage::Set(packing(&[first, region(0, None)?, first])?);
+    let message = Some(packing(&[first, region(0, None)?, first])?);
     let mut buffer = [0; 102];
     assert_eq!(rt; message.write(&mut buffer)?, 101);
+    // a payload of every length
     for len in 0..101 {
         let bits = len * 8;
         assert_eq!(rt; told(&buffer[0..len]), (6, cut(bits)), "{}", len);
@@ -164,7 +163,7 @@ fn every_truncation(rt: HostRuntime) -> Result<(), Fail> {
 fn written_and_read(rt: HostRuntime) -> Result<(), Fail> {
     let first = guarded()?;
     let second = region(0, None)?;
-    let message = RegionwisePackingMessage::Set(packing(&[first, second])?);
+    let message = Some(packing(&[first, second])?);
     let mut buffer = [0; 70];
     let mut again = [0; 70];
     assert_eq!(rt; message.write(&mut buffer)?, 70);
@@ -174,9 +173,9 @@ fn written_and_read(rt: HostRuntime) -> Result<(), Fail> {
         "not used, and types 0, 1 and the start of 2"
     );
     assert_eq!(rt; buffer[44], 0xB8, "the rest of 2, 7 and reserved bits of 0");
-    match <RegionwisePackingMessage as Record>::read(&buffer)? {
-        RegionwisePackingMessage::Cancel => Err(Fail::new("it is no cancel")),
-        RegionwisePackingMessage::Set(read) => {
+    match Option::<RegionwisePacking>::read(&buffer)? {
+        None => Err(Fail::new("it is no cancel")),
+        Some(read) => {
             assert_eq!(rt; read.persistence, true);
             assert_eq!(rt; read.matching, false);
             assert_eq!(rt; read.projected.width, 4_096);
@@ -204,7 +203,7 @@ fn the_most(rt: HostRuntime) -> Result<(), Fail> {
     let most = packing(&[first; 32])?;
     assert_eq!(rt; most.payload_len(), 1_006);
     assert_eq!(rt;
-        <RegionwisePacking as Content>::greatest_length(),
+        <RegionwisePacking as Content>::GREATEST,
         1_011,
         "five bytes more, framed"
     );

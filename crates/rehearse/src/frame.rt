@@ -1,7 +1,8 @@
 // The messages of a unit, printed one after the other.
 use crate::session::front;
-use layouts::fault::Fault;
-use script::hex::encode;
+use crate::tell::behind_blank;
+use layouts::fault::Told;
+use script::line::UnitBytes;
 use std::io;
 use units::fault::UnitFault;
 use units::fill::{LONGEST, fill};
@@ -9,12 +10,11 @@ use units::frame::Messages;
 use units::source::{Clean, Source};
 use units::unescaped::Unescaped;
 
-// Prints the messages of a unit, given as clean bytes or still escaped, or why it is refused.
-pub fn show_frame(rt: &HostRuntime, escaped: bool, unit: &[u8]) -> io::Result<()> {
-    if escaped {
-        show_unit(rt, Unescaped::new(Clean::new(unit)))
-    } else {
-        show_unit(rt, Clean::new(unit))
+// Prints the messages of a unit, or why it is refused.
+pub fn show_frame(rt: &HostRuntime, unit: &UnitBytes) -> io::Result<()> {
+    match unit {
+        UnitBytes::Clean(bytes) => show_unit(rt, Clean::new(bytes.as_slice())),
+        UnitBytes::Escaped(bytes) => show_unit(rt, Unescaped::new(Clean::new(bytes.as_slice()))),
     }
 }
 
@@ -28,8 +28,9 @@ fn show_unit<X: Source + Drop>(rt: &HostRuntime, mut source: X) -> io::Result<()
 
 // Judges the frame, and prints each message with its type, its place and its payload.
 fn show_messages(rt: &HostRuntime, bytes: &[u8]) -> io::Result<()> {
+    // `count` would ask that they are few enough to be counted
     let total = match Messages::new(bytes) {
-        Ok(messages) => count(messages),
+        Ok(messages) => messages.fold(0usize, |count, _| count.saturating_add(1)),
         Err(fault) => return show_refusal(rt, fault),
     };
     print!(rt; "frame: {total} messages")?;
@@ -37,26 +38,13 @@ fn show_messages(rt: &HostRuntime, bytes: &[u8]) -> io::Result<()> {
         for message in messages {
             let kind = message.kind;
             let place = message.place;
-            let payload = encode(rt.alloc(), message.payload)?;
-            let gap = if message.payload.is_empty() { "" } else { " " };
-            print!(rt; "; {kind} at {place}:{gap}{payload}")?;
+            let payload = behind_blank(rt, message.payload)?;
+            print!(rt; "; {kind} at {place}:{payload}")?;
         }
     }
     println!(rt; "")
 }
 
-// How many messages are to come.
-fn count(messages: Messages) -> usize {
-    let mut count: usize = 0;
-    for _ in messages {
-        count = count.saturating_add(1);
-    }
-    count
-}
-
 fn show_refusal(rt: &HostRuntime, fault: UnitFault) -> io::Result<()> {
-    let number = fault.number();
-    let layer = fault.layer();
-    let place = fault.place();
-    println!(rt; "frame: refused {number} {layer} {place}")
+    println!(rt; "frame: refused {}", Told(fault))
 }

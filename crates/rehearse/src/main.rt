@@ -35,15 +35,10 @@ fn run(rt: &HostRuntime) -> anyhow::Result<()> {
 fn rehearse<S: Set, R: BufRead + Drop>(
     rt: &HostRuntime,
     mut session: Session<S>,
-    mut input: R,
+    input: R,
 ) -> anyhow::Result<()> {
-    let mut text = Vec::new(rt.alloc());
-    for number in 1..u64::MAX {
-        text.clear();
-        if input.read_until(b'\n', &mut text)? == 0 {
-            break;
-        }
-        session.line(rt, number, text.as_slice())?;
+    for (number, text) in (1..u64::MAX).zip(input.split(rt.alloc(), b'\n')) {
+        session.line(rt, number, text?.as_slice())?;
     }
     Ok(())
 }

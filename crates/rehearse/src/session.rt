@@ -49,16 +49,16 @@ impl<S: Set> Session<S> {
             Line::Message { kind, payload } => self.call(rt, Call::Message { kind, payload }),
             Line::Unit(unit) => self.unit(rt, unit),
             Line::Look { kind, n } => {
-                let buffer = self.take_buffer(rt);
+                let buffer = taken(rt, &mut self.buffer);
                 self.call(rt, Call::Look { kind, n, buffer })
             }
             Line::CatchUp => {
-                let buffer = self.take_buffer(rt);
+                let buffer = taken(rt, &mut self.buffer);
                 self.call(rt, Call::CatchUp { buffer })
             }
-            Line::Scratch(len) => self.set_scratch(rt, number, len),
-            Line::Buffer(len) => self.set_buffer(rt, number, len),
-            Line::Frame(unit) => show_frame(rt, unit.escaped, unit.bytes.as_slice()),
+            Line::Scratch(len) => set(rt, number, "scratch", &mut self.scratch, len),
+            Line::Buffer(len) => set(rt, number, "buffer", &mut self.buffer, len),
+            Line::Frame(unit) => show_frame(rt, &unit),
             Line::Show => show(rt, &self.visit),
         }
     }
@@ -68,7 +68,7 @@ impl<S: Set> Session<S> {
         self.serve(rt, call)
     }
 
-    // Serves one call.
+    // Serves one call, in a `Vec`: an array of one over any type of source did not prove as a slice.
     fn serve<X: Source + Drop>(&mut self, rt: &HostRuntime, call: Call<X>) -> io::Result<()> {
         let mut requests = Vec::new(rt.alloc());
         requests.push(Request { call, answer: None })?;
@@ -79,9 +79,10 @@ impl<S: Set> Session<S> {
         Ok(())
     }
 
-    // Prints the answer to a request, and takes the scratch and the buffer back.
+    // Prints the answer to a request, and takes the scratch and the buffer back: by `swap`, since a match moves nothing out
+    // of one arm beside others.
     fn finish<X: Drop>(&mut self, rt: &HostRuntime, mut request: Request<X>) -> io::Result<()> {
-        let told = tell(rt, &request.call, request.answer);
+        let told = tell(rt, &request);
         match &mut request.call {
             Call::Unit { scratch, .. } => mem::swap(scratch, &mut self.scratch),
             Call::Look { buffer, .. } => mem::swap(buffer, &mut self.buffer),
@@ -92,50 +93,41 @@ impl<S: Set> Session<S> {
     }
 
     fn unit(&mut self, rt: &HostRuntime, unit: UnitBytes) -> io::Result<()> {
-        let mut scratch = Vec::new(rt.alloc());
-        mem::swap(&mut scratch, &mut self.scratch);
-        let source = Stored::new(unit.bytes);
-        if unit.escaped {
-            let source = Unescaped::new(source);
-            self.serve(rt, Call::Unit { source, scratch })
-        } else {
-            self.serve(rt, Call::Unit { source, scratch })
-        }
-    }
-
-    fn take_buffer(&mut self, rt: &HostRuntime) -> Vec<u8> {
-        let mut buffer = Vec::new(rt.alloc());
-        mem::swap(&mut buffer, &mut self.buffer);
-        buffer
-    }
-
-    fn set_scratch(&mut self, rt: &HostRuntime, number: u64, len: usize) -> io::Result<()> {
-        match vec![in rt.alloc(); 0; len] {
-            Ok(scratch) => {
-                self.scratch = scratch;
-                println!(rt; "scratch {len}: set")
+        let scratch = taken(rt, &mut self.scratch);
+        match unit {
+            UnitBytes::Clean(bytes) => {
+                let source = Stored::new(bytes);
+                self.serve(rt, Call::Unit { source, scratch })
             }
-            Err(_) => no_memory(rt, number, "scratch", len),
-        }
-    }
-
-    fn set_buffer(&mut self, rt: &HostRuntime, number: u64, len: usize) -> io::Result<()> {
-        match vec![in rt.alloc(); 0; len] {
-            Ok(buffer) => {
-                self.buffer = buffer;
-                println!(rt; "buffer {len}: set")
+            UnitBytes::Escaped(bytes) => {
+                let source = Unescaped::new(Stored::new(bytes));
+                self.serve(rt, Call::Unit { source, scratch })
             }
-            Err(_) => no_memory(rt, number, "buffer", len),
         }
     }
 }
 
-fn no_memory(rt: &HostRuntime, number: u64, what: &str, len: usize) -> io::Result<()> {
-    println!(rt; "error: line {number}: there is no memory for a {what} of {len} bytes")
+// A scratch or a buffer, out of its place.
+fn taken(rt: &HostRuntime, place: &mut Vec<u8>) -> Vec<u8> {
+    mem::replace(place, Vec::new(rt.alloc()))
+}
+
+// Puts a scratch or a buffer of a length in its place.
+fn set(
+    rt: &HostRuntime,
+    number: u64,
+    what: &str,
+    place: &mut Vec<u8>,
+    len: usize,
+) -> io::Result<()> {
+    let Ok(bytes) = vec![in rt.alloc(); 0; len] else {
+        return println!(rt; "error: line {number}: there is no memory for a {what} of {len} bytes");
+    };
+    *place = bytes;
+    println!(rt; "{what} {len}: set")
 }
 
 // The first `len` bytes.
 pub fn front(bytes: &[u8], len: usize) -> &[u8] {
-    let end = len.min(bytes.len());
-    &bytes[0..end]
+    bytes.get(..len).unwrap_or(bytes)
 }

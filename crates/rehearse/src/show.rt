@@ -4,7 +4,6 @@ use frame_packing::message::FramePacking;
 use frame_packings::packing::Packing;
 use kinds::content::Content;
 use kinds::kind::Kind;
-use records::cancelable::Cancelable;
 use records::record::Record;
 use sets::set::Set;
 use std::fmt::Display;
@@ -33,7 +32,7 @@ fn show_content<C: Content + Display, S: Set>(
     visit: &Visit<S>,
 ) -> io::Result<bool> {
     let mut buffer = [0u8; 1_006];
-    let kind = C::type_number();
+    let kind = C::TYPE;
     let Ok(len) = visit.look(kind, 0, &mut buffer) else {
         return Ok(false);
     };
@@ -47,7 +46,8 @@ fn show_content<C: Content + Display, S: Set>(
 
 // Shows the frame packings in force, upward by id; false where there are none.
 fn show_packings<S: Set>(rt: &HostRuntime, visit: &Visit<S>) -> io::Result<bool> {
-    let kind = <frame_packings::packings::FramePackings as Kind>::type_number();
+    let kind = <frame_packings::packings::FramePackings as Kind>::TYPE;
+    // a look asks for a payload by its number
     for n in 0..4 {
         let mut buffer = [0u8; 18];
         let Ok(len) = visit.look(kind, n, &mut buffer) else {
@@ -61,7 +61,7 @@ fn show_packings<S: Set>(rt: &HostRuntime, visit: &Visit<S>) -> io::Result<bool>
 }
 
 fn show_packing(rt: &HostRuntime, kind: u32, message: FramePacking) -> io::Result<()> {
-    let Cancelable::Set(arrangement) = message.arrangement else {
+    let Some(arrangement) = message.arrangement else {
         return Ok(());
     };
     let packing = Packing {

@@ -1,15 +1,17 @@
 // The answer to a call, printed as a line.
 use crate::session::front;
-use book::answer::{Answer, Tally};
+use book::answer::{Answer, Saved, Tally};
 use kinds::fault::Offered;
-use layouts::fault::Fault;
+use layouts::fault::Told;
 use script::hex::encode;
+use std::alloc::AllocError;
 use std::io;
-use visit::serve::Call;
+use visit::serve::{Call, Request};
 
 // Prints what a call answered that was served.
-pub fn tell<X>(rt: &HostRuntime, call: &Call<X>, answer: Option<Answer>) -> io::Result<()> {
-    match call {
+pub fn tell<X>(rt: &HostRuntime, request: &Request<X>) -> io::Result<()> {
+    let answer = request.answer;
+    match &request.call {
         Call::Picture { new_sequence } => {
             let mark = if *new_sequence { " new" } else { "" };
             println!(rt; "picture{mark}: begun")
@@ -40,14 +42,17 @@ fn tell_unit(rt: &HostRuntime, answer: Option<Answer>) -> io::Result<()> {
 }
 
 fn tell_tally(rt: &HostRuntime, tally: Tally) -> io::Result<()> {
-    let (granted, refused, passed) = tally.counts;
+    let Tally {
+        granted,
+        refused,
+        passed,
+        refusal,
+    } = tally;
     print!(rt; "unit: {granted} granted, {refused} refused, {passed} passed")?;
-    if let Some(message) = tally.refusal {
-        let number = message.fault.number();
-        let layer = message.fault.layer();
-        let place = message.fault.place();
+    if let Some(message) = refusal {
+        let refusal = Told(message.fault);
         let first = message.place;
-        print!(rt; "; first refusal {number} {layer} {place} in message at {first}")?;
+        print!(rt; "; first refusal {refusal} in message at {first}")?;
     }
     println!(rt; "")
 }
@@ -61,9 +66,8 @@ fn tell_look(
 ) -> io::Result<()> {
     match answer {
         Some(Answer::Look(Ok(len))) => {
-            let bytes = encode(rt.alloc(), front(buffer, len))?;
-            let gap = if len == 0 { "" } else { " " };
-            println!(rt; "look {kind} {n}: {len} bytes{gap}{bytes}")
+            let bytes = behind_blank(rt, front(buffer, len))?;
+            println!(rt; "look {kind} {n}: {len} bytes{bytes}")
         }
         Some(Answer::Look(Err(refusal))) => println!(rt; "look {kind} {n}: {refusal}"),
         _ => Ok(()),
@@ -72,12 +76,20 @@ fn tell_look(
 
 fn tell_catch_up(rt: &HostRuntime, buffer: &[u8], answer: Option<Answer>) -> io::Result<()> {
     match answer {
-        Some(Answer::CatchUp(Ok((len, messages)))) => {
-            let bytes = encode(rt.alloc(), front(buffer, len))?;
-            let gap = if len == 0 { "" } else { " " };
-            println!(rt; "catch-up: {len} bytes, {messages} messages{gap}{bytes}")
+        Some(Answer::CatchUp(Ok(Saved { len, messages }))) => {
+            let bytes = behind_blank(rt, front(buffer, len))?;
+            println!(rt; "catch-up: {len} bytes, {messages} messages{bytes}")
         }
         Some(Answer::CatchUp(Err(refusal))) => println!(rt; "catch-up: {refusal}"),
         _ => Ok(()),
     }
+}
+
+// Bytes as hex behind a blank, and nothing where there are none.
+pub fn behind_blank(rt: &HostRuntime, bytes: &[u8]) -> Result<String, AllocError> {
+    let text = encode(rt.alloc(), bytes)?;
+    if text.is_empty() {
+        return Ok(text);
+    }
+    format!(in rt.alloc(); " {text}")
 }

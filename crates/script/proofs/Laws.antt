@@ -139,3 +139,5 @@ messages-written kind small payload fits =
     ap (λ o. on_number o (type_wanted name.Message) (λ k. on_reading (read (behind (32 ∷ (ds ++ 32 ∷ more)))) (message k))) (ap type_number first ∙ type-decimal kind small)
     ∙ ap (λ l. on_reading (read l) (message kind)) second
     ∙ ap (λ r. on_reading r (message kind)) (reads-back payload fits)
+
+pub ruleset LAWS = (no-call-skipped, messages-written)

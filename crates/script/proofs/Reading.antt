@@ -1,6 +1,6 @@
 -- Hex text: what is written reads back, what each turn of the reader keeps, and how a text grows by a byte.
 use Rattle.std.proofs.Common.{◌≡◌, ℕ, zero, suc, ◌+◌, ◌*◌, ◌/◌, ◌%◌, ◌<◌, ◌≤◌, true, false, List, [], ◌∷◌, ◌++◌, length, get_or, take, drop, is_some, IfSome, Some, None, IsUtf8, Option, sym, refl, ap, ◌∙◌, append_assoc, append-nil, arith, rules}
-use Rattle.std.proofs.lemmas.List.{drop_more, drop_all, take_more}
+use Rattle.std.proofs.lemmas.List.{drop_more, take_more}
 use Rattle.std.proofs.lemmas.Bool.{cond-true, cond-false}
 use Rattle.std.proofs.lemmas.Bool.Decides.{nat_tests}
 use Rattle.std.specs.Int.{is_in_range as within}
@@ -8,7 +8,7 @@ use Rattle.std.specs.Char.{is_ascii_whitespace}
 use Rattle.std.specs.List.{AllByRecursion}
 use Rattle.std.specs.Str.{IsCharBoundary}
 use Rattle.std.proofs.lemmas.Str.{IsCharBoundary-after_ascii}
-use Rattle.script.specs.Hex.{digit, bytes, not_hex, odd, on_digit, reading, read, numeral, pair, more, written, ReadsBack}
+use Rattle.script.specs.Hex.{digit, bytes, not_hex, on_digit, reading, read, numeral, pair, more, written, ReadsBack}
 
 -- a digit that is written is no blank
 numeral-no-blank : (v : ℕ) → v < 16 → is_ascii_whitespace (numeral v) ≡ false
@@ -52,15 +52,12 @@ pub reads-back : ReadsBack
 reads-back [] h = refl
 reads-back (b ∷ bs) h = pair_step [] (pair b ++ more bs) (more bs) b h.0 ∙ more-read (b ∷ []) (pair b ++ more bs) bs h.1
 
+pub ruleset LAW = (reads-back)
+
 -- what a step reads at the place i of a text
 module _ (text : List ℕ) (i : ℕ) (within : i < length text) (done w : List ℕ) where
   here : drop i text ≡ get_or text i 0 ∷ drop (i + 1) text
   here = drop_more text i 0 within
-
-  -- a blank behind a pair's first digit
-  pub odd-at : (o : Option ℕ) → is_ascii_whitespace (get_or text i 0) ≡ true → is_some o ≡ true → reading done o w (drop i text) ≡ odd w
-  odd-at None white some = absurd (search rules)
-  odd-at (Some h) white some = ap (reading done (Some h) w) here ∙ cond-true _ _ _ white
 
   -- a blank between pairs begins a new word
   pub blank-at : (o : Option ℕ) → is_ascii_whitespace (get_or text i 0) ≡ true → is_some o ≡ false → reading done o w (drop i text) ≡ reading done o (drop (i + 1) text) (drop (i + 1) text)
@@ -99,15 +96,6 @@ module _ (text : List ℕ) (i : ℕ) (within : i < length text) (done : List ℕ
 
   pub second-turn : (h v : ℕ) → Sofar text done (Some h) word i → is_ascii_whitespace (get_or text i 0) ≡ false → Some v ≡ digit (get_or text i 0) → Sofar text (done ++ (h * 16 + v) ∷ []) None word (i + 1)
   second-turn h v s dark is = (sym (second_at text i within done (drop word text) h v dark is) ∙ s.0, tt, s.2)
-
--- at the end of the text
-pub odd-end : (text done w : List ℕ) (i : ℕ) (o : Option ℕ) → length text ≤ i → is_some o ≡ true → reading done o w (drop i text) ≡ odd w
-odd-end text done w i None end some = absurd (search rules)
-odd-end text done w i (Some h) end some = ap (reading done (Some h) w) (drop_all i text end)
-
-pub bytes-end : (text done w : List ℕ) (i : ℕ) (o : Option ℕ) → length text ≤ i → is_some o ≡ false → reading done o w (drop i text) ≡ bytes done
-bytes-end text done w i None end none = ap (reading done None w) (drop_all i text end)
-bytes-end text done w i (Some h) end none = absurd (search rules)
 
 -- the same under other names
 pub named : (text : List ℕ) {d e : List ℕ} {o p : Option ℕ} {v w : ℕ} (i : ℕ) → d ≡ e → o ≡ p → v ≡ w → Sofar text e p w i → Sofar text d o v i

@@ -10,6 +10,7 @@ use Rattle.script.specs.Hex.{Reading}
 use Rattle.script.specs.declared.line.Name.{Name}
 use Rattle.script.specs.declared.line.Name.TheVariants as name
 use Rattle.script.specs.declared.line.UnitBytes.{UnitBytes}
+use Rattle.script.specs.declared.line.UnitBytes.TheVariants.{Clean, Escaped}
 use Rattle.script.specs.declared.line.Line.{Line}
 use Rattle.script.specs.declared.line.Line.TheVariants as line
 use Rattle.script.specs.declared.line.LineFault.{LineFault}
@@ -35,26 +36,35 @@ pub data Saying : Type 0 where
   odd_digits : List ℕ → Saying
   too_many_words : List ℕ → Saying
 
+-- what a call says of a unit: whether it is escaped, and its bytes
+abbrev pub of_unit : UnitBytes → (Bool → List ℕ → Saying) → Saying
+of_unit (Clean v) call = call false (vec_items v)
+of_unit (Escaped v) call = call true (vec_items v)
+
+-- what a refusal tells of a line that says s: the same, where memory fails
+abbrev pub refused : LineFault → Saying → Saying
+refused (fault.UnknownCall w) s = unknown_call w.now
+refused (fault.TypeWanted n) s = type_wanted n
+refused (fault.NumberWanted n) s = number_wanted n
+refused (fault.NotHex w) s = not_hex w.now
+refused (fault.OddDigits w) s = odd_digits w.now
+refused (fault.TooManyWords w) s = too_many_words w.now
+refused fault.Memory s = s
+
 -- an answer tells what a line says, unless memory fails
 abbrev pub Says : Saying → Result Line LineFault → Type 0
 Says s (Ok line.Skipped) = s ≡ skipped
 Says s (Ok (line.Picture new)) = s ≡ picture new
 Says s (Ok line.Clear) = s ≡ clear
 Says s (Ok (line.Message kind payload)) = s ≡ message kind (vec_items payload)
-Says s (Ok (line.Unit u)) = s ≡ unit u.escaped (vec_items u.bytes)
+Says s (Ok (line.Unit u)) = s ≡ of_unit u unit
 Says s (Ok (line.Look kind n)) = s ≡ look kind n
 Says s (Ok line.CatchUp) = s ≡ catch_up
 Says s (Ok (line.Scratch n)) = s ≡ scratch n
 Says s (Ok (line.Buffer n)) = s ≡ buffer n
-Says s (Ok (line.Frame u)) = s ≡ frame u.escaped (vec_items u.bytes)
+Says s (Ok (line.Frame u)) = s ≡ of_unit u frame
 Says s (Ok line.Show) = s ≡ show
-Says s (Err (fault.UnknownCall w)) = s ≡ unknown_call w.now
-Says s (Err (fault.TypeWanted n)) = s ≡ type_wanted n
-Says s (Err (fault.NumberWanted n)) = s ≡ number_wanted n
-Says s (Err (fault.NotHex w)) = s ≡ not_hex w.now
-Says s (Err (fault.OddDigits w)) = s ≡ odd_digits w.now
-Says s (Err (fault.TooManyWords w)) = s ≡ too_many_words w.now
-Says s (Err fault.Memory) = Unit {0}
+Says s (Err e) = s ≡ refused e s
 
 -- the call of a name
 abbrev pub named : List ℕ → Option Name
@@ -106,15 +116,13 @@ picture_of text = cond (bytes_eq (word text) (codes "new")) (closed (behind text
 abbrev pub message_of : List ℕ → Saying
 message_of text = on_number (type_number (word text)) (type_wanted name.Message) (λ kind. on_reading (hex.read (behind text)) (message kind))
 
--- `look TYPE N`
-abbrev pub look_of : List ℕ → Saying
-look_of text =
-    on_number (type_number (word text)) (type_wanted name.Look)
-    (λ kind. on_number (number (word (behind text))) (number_wanted name.Look) (λ n. closed (behind (behind text)) (look kind n)))
-
--- a call with one number, as `buffer N`
+-- one number and no more, as in `buffer N`
 abbrev pub numbered : Name → (ℕ → Saying) → List ℕ → Saying
 numbered name call text = on_number (number (word text)) (number_wanted name) (λ n. closed (behind text) (call n))
+
+-- `look TYPE N`
+abbrev pub look_of : List ℕ → Saying
+look_of text = on_number (type_number (word text)) (type_wanted name.Look) (λ kind. numbered name.Look (look kind) (behind text))
 
 -- a call with a unit, as `unit HEX` or `unit escaped HEX`
 abbrev pub unit_of : List ℕ → (Bool → List ℕ → Saying) → Saying
@@ -124,9 +132,14 @@ unit_of text call = cond (bytes_eq (word text) (codes "escaped")) (on_reading (h
 abbrev pub frame_of : List ℕ → Saying
 frame_of text = unit_of text frame
 
+-- an answer tells the one number that a text holds, whatever call it is for
+abbrev pub TellsNumber : ((ℕ → Saying) → Saying) → Result ℕ LineFault → Type 0
+TellsNumber text (Ok n) = (call : ℕ → Saying) → text call ≡ call n
+TellsNumber text (Err e) = (call : ℕ → Saying) → Says (text call) (Err e)
+
 -- an answer tells the unit that a text holds, whatever call it is for, unless memory fails
 abbrev pub TellsUnit : ((Bool → List ℕ → Saying) → Saying) → Result UnitBytes LineFault → Type 0
-TellsUnit text (Ok u) = (call : Bool → List ℕ → Saying) → text call ≡ call u.escaped (vec_items u.bytes)
+TellsUnit text (Ok u) = (call : Bool → List ℕ → Saying) → text call ≡ of_unit u call
 TellsUnit text (Err e) = (call : Bool → List ℕ → Saying) → Says (text call) (Err e)
 
 -- a call by its name w, with the text behind it

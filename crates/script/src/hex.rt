@@ -1,9 +1,10 @@
 // Bytes as hex text: two digits to a byte, with or without blanks between, read in either case and written in upper case.
 ghost use Rattle.std.specs.Prelude.{◌≡◌, ◌<◌, ◌++◌, IfOk, string_bytes, OnOk};
-ghost use Rattle.script.specs.Hex.{digit, numeral, pair, written, Decodes, ReadsBack};
+ghost use Rattle.script.specs.Hex.{digit, pair, written, Decodes, ReadsBack};
 ghost use Rattle.script.specs.declared.hex.HexFault.TheVariants.{Memory};
 
 use std::alloc::{AllocError, AllocFailed, Global};
+use std::fmt::Write;
 
 // Why a text is not hex. A word is given by the place at which it begins in the text.
 #[derive(Clone, Copy, PartialEq, Eq, Debug)]
@@ -28,27 +29,11 @@ impl<T: Drop> From<AllocFailed<T>> for HexFault {
 fn digit_value(c: u8) -> Option<u8>
     ensures { result ≡ digit c }
 {
-    match c {
-        b'0'..=b'9' => Some(c - b'0'),
-        b'A'..=b'F' => Some(c - b'A' + 10),
-        b'a'..=b'f' => Some(c - b'a' + 10),
-        _ => None,
-    }
+    let value = char::from(c).to_digit(16)?;
+    u8::try_from(value).ok()
 }
 
-// The digit of a value below 16.
-fn digit_of(value: u8) -> char
-    requires { value < 16 }
-    ensures { result ≡ numeral value }
-{
-    if value < 10 {
-        (b'0' + value) as char
-    } else {
-        (b'A' + (value - 10)) as char
-    }
-}
-
-// The bytes that a text of hex pairs stands for.
+// The bytes that a text of hex pairs stands for. The library's `hex` takes no blanks, and asks for the length before the digits.
 pub fn decode(heap: Global, text: &str) -> Result<Vec<u8>, HexFault>
     ensures { Decodes text.now result }
 {
@@ -62,6 +47,7 @@ pub fn decode(heap: Global, text: &str) -> Result<Vec<u8>, HexFault>
             }
             word = i + 1;
         } else {
+            // the proof goes by the case, which `ok_or` and `?` would hide in two steps
             let Some(low) = digit_value(*c) else {
                 return Err(HexFault::NotHex(word));
             };
@@ -81,15 +67,15 @@ pub fn decode(heap: Global, text: &str) -> Result<Vec<u8>, HexFault>
 }
 
 // Adds the two digits of a byte.
+#[tactic(auto, using(std::proofs::lemmas::Fmt::hex_byte))]
 fn push_byte(text: &mut String, byte: u8) -> Result<(), AllocError>
     ensures { OnOk result (string_bytes text.new ≡ string_bytes text.old ++ pair byte) }
 {
-    text.push(digit_of(byte / 16))?;
-    text.push(digit_of(byte % 16))?;
-    Ok(())
+    write!(text, "{byte:02X}")
 }
 
 // Bytes as hex: two digits to a byte, in upper case, with a blank between bytes.
+#[tactic(auto, using(crate::proofs::Reading::LAW))]
 pub fn encode(heap: Global, bytes: &[u8]) -> Result<String, AllocError>
     ensures value { IfOk result (λ t. string_bytes t ≡ written bytes.now) }
     ensures law { ReadsBack }

@@ -1,9 +1,11 @@
 // Lines of a script: each is a call, or is skipped, or is refused in words that an operator understands.
 ghost use Rattle.std.specs.Prelude.{◌≡◌, ℕ, List, drop, Ok, Err, MatchResult};
+ghost use Rattle.std.specs.Option.{ok_or};
 ghost use Rattle.std.specs.Str.{IsCharBoundary};
 ghost use Rattle.script.specs.Words.{word as word_of};
 ghost use Rattle.script.specs.Hex.{read, bytes as bytes_of};
-ghost use Rattle.script.specs.Lines.{Saying, Says, named, number, type_number, on_reading, closed, picture_of, message_of, look_of, unit_of, frame_of, TellsUnit, scratch, buffer, unit, numbered, call_of, saying, NoCallSkipped, MessagesWritten};
+ghost use Rattle.script.specs.Lines.{Saying, Says, named, number, type_number, on_reading, closed, picture_of, message_of, look_of, unit_of, TellsNumber, TellsUnit, numbered, call_of, saying, NoCallSkipped, MessagesWritten};
+ghost use Rattle.script.specs.declared.line.LineFault.TheVariants.{UnknownCall};
 
 use crate::hex::{HexFault, decode};
 use crate::words::first_word;
@@ -12,9 +14,9 @@ use std::fmt;
 
 // The bytes of a unit, clean or still escaped.
 #[derive(Debug, Drop)]
-pub struct UnitBytes {
-    pub escaped: bool,
-    pub bytes: Vec<u8>,
+pub enum UnitBytes {
+    Clean(Vec<u8>),
+    Escaped(Vec<u8>),
 }
 
 // A line of a script.
@@ -116,25 +118,29 @@ impl<'a> fmt::Display for LineFault<'a> {
 }
 
 // The call of a name.
-fn name_of(word: &str) -> Option<Name>
-    ensures { result ≡ named word.now }
-{
-    match word {
-        "picture" => Some(Name::Picture),
-        "clear" => Some(Name::Clear),
-        "message" => Some(Name::Message),
-        "unit" => Some(Name::Unit),
-        "look" => Some(Name::Look),
-        "catch-up" => Some(Name::CatchUp),
-        "scratch" => Some(Name::Scratch),
-        "buffer" => Some(Name::Buffer),
-        "frame" => Some(Name::Frame),
-        "show" => Some(Name::Show),
-        _ => None,
+impl<'a> TryFrom<&'a str> for Name {
+    type Error = LineFault<'a>;
+
+    ghost try_from_gives = { λ word r. r ≡ ok_or (named word.now) (UnknownCall word) };
+
+    fn try_from(word: &'a str) -> Result<Name, LineFault<'a>> {
+        match word {
+            "picture" => Ok(Name::Picture),
+            "clear" => Ok(Name::Clear),
+            "message" => Ok(Name::Message),
+            "unit" => Ok(Name::Unit),
+            "look" => Ok(Name::Look),
+            "catch-up" => Ok(Name::CatchUp),
+            "scratch" => Ok(Name::Scratch),
+            "buffer" => Ok(Name::Buffer),
+            "frame" => Ok(Name::Frame),
+            "show" => Ok(Name::Show),
+            _ => Err(LineFault::UnknownCall(word)),
+        }
     }
 }
 
-// The number that a word of decimal digits stands for.
+// The number that a word of decimal digits stands for; `parse` alone would take a sign.
 fn number_of(word: &str) -> Option<usize>
     ensures { result ≡ number word.now }
 {
@@ -148,12 +154,7 @@ fn number_of(word: &str) -> Option<usize>
 fn type_of(word: &str) -> Option<u32>
     ensures { result ≡ type_number word.now }
 {
-    let n = number_of(word)?;
-    if n <= 0xFFFF_FFFF {
-        Some(n as u32)
-    } else {
-        None
-    }
+    u32::try_from(number_of(word)?).ok()
 }
 
 // The word that begins at a place.
@@ -166,19 +167,20 @@ fn word_at(text: &str, place: usize) -> &str
     word
 }
 
-// The line, where no word follows it.
-fn end_of<'a>(text: &'a str, line: Line) -> Result<Line, LineFault<'a>>
-    ensures { (s : Saying) → Says s (Ok line) → Says (closed text.now s) result }
+// Nothing, where no word is left.
+fn end_of<'a>(text: &'a str) -> Result<(), LineFault<'a>>
+    ensures { MatchResult result (λ _. (s : Saying) → closed text.now s ≡ s) (λ e. (s : Saying) → Says (closed text.now s) (Err e)) }
 {
     let (word, _) = first_word(text);
     if word.is_empty() {
-        Ok(line)
+        Ok(())
     } else {
         Err(LineFault::TooManyWords(word))
     }
 }
 
 // The bytes of the words of hex that follow.
+// A match and no `map_err`, whose closure would have to say again where a word may begin.
 fn bytes_of<'a>(heap: Global, text: &'a str) -> Result<Vec<u8>, LineFault<'a>>
     ensures { MatchResult result (λ v. read text.now ≡ bytes_of v.items) (λ e. (f : List ℕ → Saying) → Says (on_reading (read text.now) f) (Err e)) }
 {
@@ -196,14 +198,13 @@ fn picture<'a>(text: &'a str) -> Result<Line, LineFault<'a>>
 {
     let (word, rest) = first_word(text);
     if word == "new" {
-        end_of(rest, Line::Picture { new_sequence: true })
+        end_of(rest)?;
+        Ok(Line::Picture { new_sequence: true })
     } else {
-        end_of(
-            text,
-            Line::Picture {
-                new_sequence: false,
-            },
-        )
+        end_of(text)?;
+        Ok(Line::Picture {
+            new_sequence: false,
+        })
     }
 }
 
@@ -212,60 +213,30 @@ fn message<'a>(heap: Global, text: &'a str) -> Result<Line, LineFault<'a>>
     ensures { Says (message_of text.now) result }
 {
     let (word, rest) = first_word(text);
-    let Some(kind) = type_of(word) else {
-        return Err(LineFault::TypeWanted(Name::Message));
-    };
-    match bytes_of(heap, rest) {
-        Ok(payload) => Ok(Line::Message { kind, payload }),
-        Err(fault) => Err(fault),
-    }
+    let kind = type_of(word).ok_or(LineFault::TypeWanted(Name::Message))?;
+    let payload = bytes_of(heap, rest)?;
+    Ok(Line::Message { kind, payload })
+}
+
+// The number of a call that takes no more.
+fn only_number<'a>(name: Name, text: &'a str) -> Result<usize, LineFault<'a>>
+    ensures { TellsNumber (λ call. numbered name call text.now) result }
+{
+    let (word, rest) = first_word(text);
+    let n = number_of(word).ok_or(LineFault::NumberWanted(name))?;
+    end_of(rest)?;
+    Ok(n)
 }
 
 // `look TYPE N`
+#[tactic(auto, using(crate::proofs::Told::look_is))]
 fn look<'a>(text: &'a str) -> Result<Line, LineFault<'a>>
     ensures { Says (look_of text.now) result }
 {
     let (word, rest) = first_word(text);
-    let Some(kind) = type_of(word) else {
-        return Err(LineFault::TypeWanted(Name::Look));
-    };
-    let (word, rest) = first_word(rest);
-    match number_of(word) {
-        Some(n) => end_of(rest, Line::Look { kind, n }),
-        None => Err(LineFault::NumberWanted(Name::Look)),
-    }
-}
-
-// `scratch N`
-fn scratch<'a>(text: &'a str) -> Result<Line, LineFault<'a>>
-    ensures { Says (numbered Name.Scratch scratch text.now) result }
-{
-    let (word, rest) = first_word(text);
-    match number_of(word) {
-        Some(n) => end_of(rest, Line::Scratch(n)),
-        None => Err(LineFault::NumberWanted(Name::Scratch)),
-    }
-}
-
-// `buffer N`
-fn buffer<'a>(text: &'a str) -> Result<Line, LineFault<'a>>
-    ensures { Says (numbered Name.Buffer buffer text.now) result }
-{
-    let (word, rest) = first_word(text);
-    match number_of(word) {
-        Some(n) => end_of(rest, Line::Buffer(n)),
-        None => Err(LineFault::NumberWanted(Name::Buffer)),
-    }
-}
-
-// A unit of the words of hex that follow.
-fn unit_bytes<'a>(heap: Global, escaped: bool, text: &'a str) -> Result<UnitBytes, LineFault<'a>>
-    ensures { TellsUnit (λ call. on_reading (read text.now) (call escaped)) result }
-{
-    match bytes_of(heap, text) {
-        Ok(bytes) => Ok(UnitBytes { escaped, bytes }),
-        Err(fault) => Err(fault),
-    }
+    let kind = type_of(word).ok_or(LineFault::TypeWanted(Name::Look))?;
+    let n = only_number(Name::Look, rest)?;
+    Ok(Line::Look { kind, n })
 }
 
 // `HEX` or `escaped HEX`
@@ -274,54 +245,42 @@ fn unit_of<'a>(heap: Global, text: &'a str) -> Result<UnitBytes, LineFault<'a>>
 {
     let (word, rest) = first_word(text);
     if word == "escaped" {
-        unit_bytes(heap, true, rest)
+        Ok(UnitBytes::Escaped(bytes_of(heap, rest)?))
     } else {
-        unit_bytes(heap, false, text)
+        Ok(UnitBytes::Clean(bytes_of(heap, text)?))
     }
 }
 
-// `unit HEX` or `unit escaped HEX`
-fn unit<'a>(heap: Global, text: &'a str) -> Result<Line, LineFault<'a>>
-    ensures { Says (unit_of text.now unit) result }
-{
-    match unit_of(heap, text) {
-        Ok(unit) => Ok(Line::Unit(unit)),
-        Err(fault) => Err(fault),
-    }
-}
-
-// `frame HEX` or `frame escaped HEX`
-fn frame<'a>(heap: Global, text: &'a str) -> Result<Line, LineFault<'a>>
-    ensures { Says (frame_of text.now) result }
-{
-    match unit_of(heap, text) {
-        Ok(unit) => Ok(Line::Frame(unit)),
-        Err(fault) => Err(fault),
-    }
-}
-
-// The call of a name with the words that follow it.
+// The call of a name with the words that follow it. Each call takes its words in a way of its own, so no table holds them.
 fn call<'a>(heap: Global, word: &'a str, rest: &'a str) -> Result<Line, LineFault<'a>>
     ensures { Says (call_of (named word.now) word.now rest.now) result }
 {
-    let Some(name) = name_of(word) else {
-        return Err(LineFault::UnknownCall(word));
-    };
+    let name = Name::try_from(word)?;
     match name {
         Name::Picture => picture(rest),
-        Name::Clear => end_of(rest, Line::Clear),
+        Name::Clear => {
+            end_of(rest)?;
+            Ok(Line::Clear)
+        }
         Name::Message => message(heap, rest),
-        Name::Unit => unit(heap, rest),
+        Name::Unit => Ok(Line::Unit(unit_of(heap, rest)?)),
         Name::Look => look(rest),
-        Name::CatchUp => end_of(rest, Line::CatchUp),
-        Name::Scratch => scratch(rest),
-        Name::Buffer => buffer(rest),
-        Name::Frame => frame(heap, rest),
-        Name::Show => end_of(rest, Line::Show),
+        Name::CatchUp => {
+            end_of(rest)?;
+            Ok(Line::CatchUp)
+        }
+        Name::Scratch => Ok(Line::Scratch(only_number(name, rest)?)),
+        Name::Buffer => Ok(Line::Buffer(only_number(name, rest)?)),
+        Name::Frame => Ok(Line::Frame(unit_of(heap, rest)?)),
+        Name::Show => {
+            end_of(rest)?;
+            Ok(Line::Show)
+        }
     }
 }
 
 // What a line of a script says.
+#[tactic(auto, using(crate::proofs::Laws::LAWS))]
 pub fn parse<'a>(heap: Global, text: &'a str) -> Result<Line, LineFault<'a>>
     ensures value { Says (saying text.now) result }
     ensures skipped { NoCallSkipped }

@@ -9,12 +9,9 @@ fn front_len(text: &[u8]) -> usize
     ensures before { (k : ℕ) → k < result → is_ascii_whitespace (slice_index text.now k) ≡ false }
     ensures blank { result < length text.now → is_ascii_whitespace (slice_index text.now result) ≡ true }
 {
-    for (i, c) in text.iter().enumerate() {
-        if c.is_ascii_whitespace() {
-            return i;
-        }
-    }
-    text.len()
+    text.iter()
+        .position(|c| c.is_ascii_whitespace())
+        .unwrap_or(text.len())
 }
 
 // The first word, empty where there is none, and what stands behind it.

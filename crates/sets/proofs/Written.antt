@@ -1,17 +1,14 @@
 -- Parts written one after the other, and how much they take.
-use Rattle.std.proofs.Common.{◌≡◌, ℕ, ◌+◌, ◌-◌, ◌<◌, ◌≤◌, Bool, true, false, cond, ltb, leb, List, [], ◌∷◌, ◌++◌, length, get_or, take, drop, Some, None, Option, sym, refl, ap, ◌∙◌, append-nil, arith, length-append, length-drop, length-take, le-leb, leb-true}
+use Rattle.std.proofs.Common.{◌≡◌, ℕ, ◌+◌, ◌-◌, ◌<◌, ◌≤◌, Bool, true, false, cond, ltb, leb, List, [], ◌++◌, length, get_or, take, drop, Some, None, sym, refl, ap, ◌∙◌, append-nil, arith, length-append, length-drop, length-take, le-leb, leb-true}
 use borrow.Author.Tests.{clash}
 use borrow.Rule.Slice.PartMut.{put_mid}
-use Rattle.std.proofs.lemmas.List.{drop_more, drop_all}
-use Rattle.std.proofs.lemmas.Bool.{lt-ltb, cond-true, cond-false}
-use Rattle.layouts.specs.Frames.{Message, framed, frames, under, fronted}
+use Rattle.std.proofs.lemmas.List.{drop_all}
+use Rattle.std.proofs.lemmas.Bool.{lt-ltb, cond-true}
+use Rattle.layouts.specs.Frames.{framed}
 use Rattle.layouts.proofs.Framed.{length-framed, length-count}
 use Rattle.kinds.specs.Outcome.{length_of, copied, looked}
-use Rattle.units.specs.Units.{and_then}
 use Rattle.units.specs.Writings.{put, head, framed_length, limited, fits}
 use Rattle.units.proofs.Writings.{length-put, framed-head, message-put}
-use Rattle.sets.specs.declared.parts.Size.{Size}
-use Rattle.sets.specs.Parts.{more, sized, written}
 
 some_same : (x y : ℕ) → Some x ≡ Some y → x ≡ y
 some_same x y e = cc
@@ -95,44 +92,3 @@ payload-told ps n t at start len b0 b1 w h size hd cut =
       ap Some e ∙ sym (cond-true (fits t (length p) at (length b0)) _ _ f),
       payload-put ps n t at start len b0 b1 w h size hd.from hd.start_room hd.is cut ∙ sym (cond-true (fits t (length p) at (length b0)) _ _ f),
     )
-
--- ---- a part
-
-pub left-more : (t n : ℕ) (ps : List (List ℕ)) → n < length ps → under t (drop n ps) ≡ (t, get_or ps n []) ∷ under t (drop (n + 1) ps)
-left-more t n ps h = ap (under t) (drop_more ps n [] h)
-
-pub left-none : (t n : ℕ) (ps : List (List ℕ)) → length ps ≤ n → under t (drop n ps) ≡ []
-left-none t n ps h = ap (under t) (drop_all n ps h)
-
--- what a message that fits leaves to write
-pub written-more : (t n at next : ℕ) (ps : List (List ℕ)) (b0 b1 : List ℕ) → n < length ps →
-    Some next ≡ cond (fits t (length (get_or ps n [])) at (length b0)) (Some (at + length (framed (t, get_or ps n [])))) None →
-    b1 ≡ cond (fits t (length (get_or ps n [])) at (length b0)) (put at (framed (t, get_or ps n [])) b0) b0 →
-    written (under t (drop (n + 1) ps)) next b1 ≡ written (under t (drop n ps)) at b0
-written-more t n at next ps b0 b1 h a b =
-    let p : List ℕ = get_or ps n [] in
-    let s = some-if (fits t (length p) at (length b0)) (at + length (framed (t, p))) next a in
-    let i : b1 ≡ put at (framed (t, p)) b0 = b ∙ cond-true (fits t (length p) at (length b0)) _ _ s.0 in
-    ap (λ (x : ℕ). written (under t (drop (n + 1) ps)) x b1) s.1
-    ∙ (ap (written (under t (drop (n + 1) ps)) (at + length (framed (t, p)))) i
-    ∙ (sym (cond-true (fits t (length p) at (length b0)) _ _ s.0) ∙ sym (ap (λ ms. written ms at b0) (left-more t n ps h))))
-
-none-if : (b : Bool) (x : ℕ) → None ≡ cond b (Some x) None → b ≡ false
-none-if true x e = absurd (some-none x (sym e))
-none-if false x e = refl
-
--- and one that does not
-pub written_none : (t n at : ℕ) (ps : List (List ℕ)) (b0 b1 : List ℕ) → n < length ps →
-    None ≡ cond (fits t (length (get_or ps n [])) at (length b0)) (Some (at + length (framed (t, get_or ps n [])))) None →
-    b1 ≡ cond (fits t (length (get_or ps n [])) at (length b0)) (put at (framed (t, get_or ps n [])) b0) b0 →
-    (None, b1) ≡ written (under t (drop n ps)) at b0
-written_none t n at ps b0 b1 h a b =
-    let p : List ℕ = get_or ps n [] in
-    let s = none-if (fits t (length p) at (length b0)) (at + length (framed (t, p))) a in
-    let i : b1 ≡ b0 = b ∙ cond-false (fits t (length p) at (length b0)) _ _ s in
-    ap (λ (x : List ℕ). (None, x)) i ∙ (sym (cond-false (fits t (length p) at (length b0)) _ _ s) ∙ sym (ap (λ ms. written ms at b0) (left-more t n ps h)))
-
--- what a message more leaves to add
-pub sized-more : (t n len : ℕ) (ps : List (List ℕ)) (s : Size) (r : Option Size) → n < length ps → len ≡ length (get_or ps n []) → r ≡ more s t len → sized (under t (drop n ps)) s ≡ and_then r (sized (under t (drop (n + 1) ps)))
-sized-more t n len ps s r h size e =
-    ap (λ ms. sized ms s) (left-more t n ps h) ∙ ap (λ (o : Option Size). and_then o (sized (under t (drop (n + 1) ps)))) (ap (more s t) (sym size) ∙ sym e)

@@ -18,12 +18,6 @@ pub trait Kinds: Sized + Drop {
     // what is in force of each
     ghost meanings: { Self → Meanings models };
 
-    // each shows what every kind shows
-    ghost lawful: { Lawfuls models };
-
-    // and has come to what it can come to
-    ghost sound: { (s : Self) → Sounds models (meanings s) };
-
     // Nothing in force.
     fn none() -> Self
         ensures { meanings result ≡ nothing models };
@@ -36,7 +30,7 @@ pub trait Kinds: Sized + Drop {
     fn has(kind: u32) -> bool
         ensures { result ≡ has models kind };
 
-    // Offers a payload to the kind of its type.
+    // Offers a payload to the kind of its type; two parameters, since nothing holds of them together.
     fn offer(&mut self, kind: u32, payload: &[u8]) -> Result<Offered, OfferFault>
         ensures answer { result ≡ told (offers models (meanings self.old) kind payload.now) }
         ensures after { meanings self.new ≡ after (meanings self.old) (offers models (meanings self.old) kind payload.now) };
@@ -54,6 +48,12 @@ pub trait Kinds: Sized + Drop {
     fn put_parts(&self, buffer: &mut [u8], at: usize) -> Option<usize>
         ensures answer { result ≡ (writes models (meanings self.now) at buffer.old).0 }
         ensures bytes { buffer.new ≡ (writes models (meanings self.now) at buffer.old).1 };
+
+    // Each shows what every kind shows.
+    ghost lawful: { Lawfuls models };
+
+    // Each has come to what it can come to.
+    ghost sound: { (s : Self) → Sounds models (meanings s) };
 }
 
 // The list of no kind.
@@ -64,10 +64,6 @@ impl Kinds for End {
     ghost models = { empty };
 
     ghost meanings = { λ s. tt };
-
-    ghost lawful = { tt };
-
-    ghost sound = { λ s. tt };
 
     fn none() -> End {
         End {}
@@ -94,9 +90,14 @@ impl Kinds for End {
     fn put_parts(&self, buffer: &mut [u8], at: usize) -> Option<usize> {
         Some(at)
     }
+
+    ghost lawful = { tt };
+
+    ghost sound = { λ s. tt };
 }
 
-// One kind, and a list of others after it.
+// One kind, and a list of others after it. Apart from `Both`, since a kind is asked for its type where a list is asked for
+// whether it has one: a list of one kind, to stand on the left of `Both`, would say all of this again.
 #[derive(Drop)]
 pub struct With<K, R> {
     first: K,
@@ -107,10 +108,6 @@ impl<K: Kind, R: Kinds> Kinds for With<K, R> {
     ghost models = { first K.Kind.model R.Kinds.models };
 
     ghost meanings = { λ s. (K.Kind.meaning s.first, R.Kinds.meanings s.rest) };
-
-    ghost lawful = { (K.Kind.lawful, R.Kinds.lawful) };
-
-    ghost sound = { λ s. (K.Kind.sound s.first, R.Kinds.sound s.rest) };
 
     fn none() -> With<K, R> {
         With {
@@ -125,21 +122,21 @@ impl<K: Kind, R: Kinds> Kinds for With<K, R> {
     }
 
     fn has(kind: u32) -> bool {
-        if kind == K::type_number() {
+        if kind == K::TYPE {
             return true;
         }
         R::has(kind)
     }
 
     fn offer(&mut self, kind: u32, payload: &[u8]) -> Result<Offered, OfferFault> {
-        if kind == K::type_number() {
+        if kind == K::TYPE {
             return self.first.offer(payload);
         }
         self.rest.offer(kind, payload)
     }
 
     fn look(&self, kind: u32, n: usize, buffer: &mut [u8]) -> Result<usize, LookFault> {
-        if kind == K::type_number() {
+        if kind == K::TYPE {
             return self.first.payload(n, buffer);
         }
         self.rest.look(kind, n, buffer)
@@ -154,6 +151,10 @@ impl<K: Kind, R: Kinds> Kinds for With<K, R> {
         let next = put_part(&self.first, buffer, at)?;
         self.rest.put_parts(buffer, next)
     }
+
+    ghost lawful = { (K.Kind.lawful, R.Kinds.lawful) };
+
+    ghost sound = { λ s. (K.Kind.sound s.first, R.Kinds.sound s.rest) };
 }
 
 // One list, and another after it. Many kinds are best halved again and again: a long chain of `With` is slow to check.
@@ -167,10 +168,6 @@ impl<P: Kinds, Q: Kinds> Kinds for Both<P, Q> {
     ghost models = { both P.Kinds.models Q.Kinds.models };
 
     ghost meanings = { λ s. (P.Kinds.meanings s.left, Q.Kinds.meanings s.right) };
-
-    ghost lawful = { (P.Kinds.lawful, Q.Kinds.lawful) };
-
-    ghost sound = { λ s. (P.Kinds.sound s.left, Q.Kinds.sound s.right) };
 
     fn none() -> Both<P, Q> {
         Both {
@@ -214,10 +211,14 @@ impl<P: Kinds, Q: Kinds> Kinds for Both<P, Q> {
         let next = self.left.put_parts(buffer, at)?;
         self.right.put_parts(buffer, next)
     }
+
+    ghost lawful = { (P.Kinds.lawful, Q.Kinds.lawful) };
+
+    ghost sound = { λ s. (P.Kinds.sound s.left, Q.Kinds.sound s.right) };
 }
 
 // Offers a message to the kind of its type. A type outside the list is passed, and then a payload of more than 65,535
-// bytes refused, before any kind is asked.
+// bytes refused, before any kind is asked: a kind may read a part of a payload only.
 pub fn offer_message<R: Kinds>(
     kinds: &mut R,
     kind: u32,

@@ -38,9 +38,10 @@ pub fn with_part<K: Kind>(kind: &K, size: Size) -> Option<Size>
     ensures { result ≡ sized (under K.Kind.model.number (K.Kind.model.part (K.Kind.meaning kind.now))) size }
 {
     let mut size = size;
+    // a kind hands out its payloads by number, so that there is nothing else to go over
     for n in 0..kind.count() {
         let len = kind.payload_len(n)?;
-        size = size.with(K::type_number(), len)?;
+        size = size.with(K::TYPE, len)?;
     }
     Some(size)
 }
@@ -52,12 +53,10 @@ fn put_payload<K: Kind>(kind: &K, n: usize, buffer: &mut [u8], at: usize) -> Opt
     ensures bytes { buffer.new ≡ (if fits K.Kind.model.number (length (slice_index_or (K.Kind.model.part (K.Kind.meaning kind.now)) n [])) at (length buffer.old) then put at (framed (K.Kind.model.number, slice_index_or (K.Kind.model.part (K.Kind.meaning kind.now)) n [])) buffer.old else buffer.old) }
 {
     let len = kind.payload_len(n)?;
-    let start = put_head(K::type_number(), len, buffer, at)?;
+    let start = put_head(K::TYPE, len, buffer, at)?;
     let end = start + len;
-    match kind.payload(n, &mut buffer[start..end]) {
-        Ok(_) => Some(end),
-        Err(_) => None,
-    }
+    kind.payload(n, &mut buffer[start..end]).ok()?;
+    Some(end)
 }
 
 // Writes a kind's part from a place on, and answers the place behind it.
@@ -66,6 +65,7 @@ pub fn put_part<K: Kind>(kind: &K, buffer: &mut [u8], at: usize) -> Option<usize
     ensures bytes { buffer.new ≡ (written (under K.Kind.model.number (K.Kind.model.part (K.Kind.meaning kind.now))) at buffer.old).1 }
 {
     let mut place = at;
+    // by number, as above
     for n in 0..kind.count() {
         place = put_payload(kind, n, buffer, place)?;
     }

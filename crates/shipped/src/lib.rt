@@ -37,7 +37,6 @@ mod tests {
     use book::fault::Refusal;
     use kinds::fault::Offered;
     use layouts::fault::Fault;
-    use records::cancelable::Cancelable;
     use records::record::Record;
     use std::process::Abort;
     use std::test::Fail;
@@ -66,7 +65,7 @@ mod tests {
         cues_of::<Shipped>(&rt)
     }
 
-    // What a message answers: the number and the place of its refusal, or 0 and 0 where it is granted.
+    // What a message answers: the number and the place of its refusal, as they are told, or 0 and 0 where it is granted.
     fn told<S: Set>(visit: &mut Visit<S>, kind: u32, payload: &[u8]) -> (u8, usize) {
         match visit.message(kind, payload) {
             Ok(Offered::Granted) => (0, 0),
@@ -122,12 +121,12 @@ mod tests {
         assert_eq!(rt; number(visit.look(47, 0, &mut buffer)), 0, "48 00 09 stays");
         assert_eq!(rt; number(visit.look(144, 0, &mut buffer)), 0);
         assert_eq!(rt; buffer, [0x03, 0xE8, 0x00, 0xC8]);
-        match Cancelable::<DisplayOrientation>::read(&[0x48, 0x00, 0x14])? {
-            Cancelable::Set(orientation) => {
+        match Option::<DisplayOrientation>::read(&[0x48, 0x00, 0x14])? {
+            Some(orientation) => {
                 assert_eq!(rt; orientation.rotation, 16384);
                 Ok(())
             },
-            Cancelable::Cancel => Err(Fail::new("48 00 14 is no cancel")),
+            None => Err(Fail::new("48 00 14 is no cancel")),
         }
     }
 
@@ -188,7 +187,7 @@ mod tests {
     // The length and the messages of a catch-up, or its refusal and 0.
     fn saved<S: Set>(visit: &Visit<S>, buffer: &mut [u8]) -> (usize, usize) {
         match visit.catch_up(buffer) {
-            Ok(told) => told,
+            Ok(told) => (told.len, told.messages),
             Err(refusal) => (refusal.number() as usize, 0),
         }
     }

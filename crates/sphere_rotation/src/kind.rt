@@ -1,61 +1,28 @@
 // Type 154, sphere rotation, as a kind.
-ghost use Rattle.sphere_rotation.specs.SphereRotation.{content_numbers};
+ghost use Rattle.std.proofs.Common.{arith};
 ghost use Rattle.sphere_rotation.specs.Rules.{rotation_rules};
-ghost use Rattle.sphere_rotation.specs.Rulings.{rotation_ruled, rotation_proper};
+ghost use Rattle.sphere_rotation.specs.Rulings.{rotation_proper};
 
 use crate::SphereRotation;
-use kinds::content::Content;
+use kinds::canceling::Canceling;
 use kinds::in_force::Stay;
-use layouts::fault::ShortBuffer;
-use records::cancelable::Cancelable;
-use records::fault::PayloadFault;
-use records::record::Record;
 
-impl Content for SphereRotation {
+impl Canceling for SphereRotation {
+    ghost TYPE = { rotation_rules.number };
+
     const TYPE: u32 = 154;
+
+    ghost GREATEST = { rotation_rules.greatest };
 
     const GREATEST: usize = 15;
 
-    ghost rules = { rotation_rules };
+    ghost stays = { rotation_rules.stay };
 
-    ghost ruled = { rotation_ruled };
-
-    ghost numbers = { content_numbers };
+    fn stay(&self) -> Stay {
+        Stay::from(self.persistence)
+    }
 
     ghost proper = { rotation_proper };
 
-    fn type_number() -> u32 {
-        Self::TYPE
-    }
-
-    fn greatest_length() -> usize {
-        Self::GREATEST
-    }
-
-    fn read(payload: &[u8]) -> Result<Option<SphereRotation>, PayloadFault> {
-        match Cancelable::<SphereRotation>::read(payload)? {
-            Cancelable::Cancel => Ok(None),
-            Cancelable::Set(rotation) => Ok(Some(rotation)),
-        }
-    }
-
-    fn payload_len(&self) -> usize {
-        Cancelable::Set(*self).payload_len()
-    }
-
-    fn write(&self, buffer: &mut [u8]) -> Result<usize, ShortBuffer> {
-        Cancelable::Set(*self).write(buffer)
-    }
-
-    fn stay(&self) -> Stay {
-        if self.persistence {
-            Stay::Stays
-        } else {
-            Stay::Once
-        }
-    }
-
-    fn agrees(&self, _held: &SphereRotation) -> bool {
-        true
-    }
+    ghost framed = { omega arith };
 }

@@ -1,9 +1,20 @@
 -- Bytes taken one by one into a scratch, and the three ways to the end.
-use Rattle.std.proofs.Common.{◌≡◌, ℕ, ◌+◌, ◌<◌, ◌≤◌, Bool, true, false, leb, List, [], ◌∷◌, ◌++◌, length, get_or, take, drop, set, Ok, Err, sym, ap, ◌∙◌, append_assoc, arith, length-drop}
+use Rattle.std.proofs.Common.{◌≡◌, ℕ, ◌+◌, ◌<◌, ◌≤◌, Bool, true, false, leb, List, [], ◌∷◌, ◌++◌, length, get_or, take, drop, set, Some, None, Ok, Err, Option, Result, sym, ap, ◌∙◌, append_assoc, arith, length-drop}
 use Rattle.std.proofs.lemmas.List.{take_more, take_all, drop_all, drop_more, set_at, length-take-le}
 use Rattle.std.proofs.lemmas.Bool.{cond-true, cond-false, le-leb, lt-leb}
+use Rattle.std.specs.Result.{MatchResult}
+use Rattle.units.specs.declared.fault.UnitFault.{UnitFault}
 use Rattle.units.specs.declared.fault.UnitFault.TheVariants.{Source, Room}
+use Rattle.units.specs.declared.source.SourceFault.{SourceFault}
 use Rattle.units.specs.Fills.{room, filling, filled, unfilled}
+use Rattle.units.specs.Sources.{Pulled}
+
+-- a byte that the source answered
+pub pulled : (r : Result (Option ℕ) SourceFault) (o : Option ℕ) (b : ℕ) (xs ys : List ℕ) (f g : Bool) → MatchResult r (λ x. ◌≡◌ {A = Result (Option ℕ) UnitFault} (Ok o) (Ok x)) (λ e. ⊥) → o ≡ Some b → Pulled r xs f ys g →
+    (xs ≡ b ∷ ys) × (g ≡ f)
+pulled (Ok (Some x)) o b xs ys f g h e p = let i : x ≡ b = cc in (p.0 ∙ ap (λ (n : ℕ). n ∷ ys) i, p.1)
+pulled (Ok None) o b xs ys f g h e p = absurd cc
+pulled (Err d) o b xs ys f g h e p = absurd h
 
 -- the next byte of those to come
 pub come : (bs ys : List ℕ) (n b : ℕ) → drop n bs ≡ b ∷ ys → (n < length bs) × (get_or bs n 0 ≡ b) × (drop (n + 1) bs ≡ ys)
@@ -52,11 +63,11 @@ module _ (bs s s0 : List ℕ) (n : ℕ) (full : n ≡ room s0) (more : n < lengt
       let t : length (take n bs) ≡ n = length-take-le n bs (omega arith) in
       holds ∙ (ap (λ (i : ℕ). take n bs ++ drop i s0) (sym t) ∙ ap (λ (i : ℕ). take i bs ++ drop (length (take i bs)) s0) full)
 
-  pub full-left : (ys : List ℕ) → drop (n + 1) bs ≡ ys → ys ≡ unfilled bs s0
-  full-left ys e = sym e ∙ ap (λ (i : ℕ). drop (i + 1) bs) full
-
   pub full-fault : (fault : Bool) → Err (Room n) ≡ filling bs fault s0
   full-fault fault = sym (cond-false (leb (length bs) (room s0)) _ (Err (Room (room s0))) (lt-leb (length bs) (room s0) (omega arith)) ∙ ap (λ (i : ℕ). Err (Room i)) (sym full))
+
+pub full-left : (bs ys s0 : List ℕ) (n b : ℕ) → n ≡ room s0 → drop n bs ≡ b ∷ ys → ys ≡ unfilled bs s0
+full-left bs ys s0 n b full e = sym (come bs ys n b e).2 ∙ ap (λ (i : ℕ). drop (i + 1) bs) full
 
 -- the three ways to the end
 pub ruleset fill_ends = (come, done, end-bytes, end-left, end-sound, end-fault, full-bytes, full-fault)

@@ -1,5 +1,5 @@
 -- Counts and messages, read from a place of a list on.
-use Rattle.std.proofs.Common.{◌≡◌, ℕ, ◌+◌, ◌-◌, ◌<◌, ◌≤◌, cond, ltb, leb, List, ◌∷◌, length, get_or, take, drop, Some, None, sym, ap, ◌∙◌, arith, length-drop}
+use Rattle.std.proofs.Common.{◌≡◌, ℕ, ◌+◌, ◌-◌, ◌<◌, ◌≤◌, cond, ltb, leb, List, ◌∷◌, length, get_or, take, drop, Some, None, sym, refl, ap, ◌∙◌, arith, length-drop}
 use Rattle.std.proofs.lemmas.List.{at_drop_more, drop-drop, length-take-le}
 use Rattle.std.proofs.lemmas.Bool.{cond-true, cond-false, le-leb, lt-leb, lt-ltb}
 use Rattle.layouts.specs.Frames.{count, framed}
@@ -14,6 +14,13 @@ module _ (bs : List ℕ) (sum next b : ℕ) (within : next < length bs) (is : b 
 
   pub counted-last : sum + b ≤ 65535 → b < 255 → counted sum (drop next bs) ≡ Some (sum + b, drop (next + 1) bs)
   counted-last h k = turn ∙ (cond-true (leb (sum + b) 65535) _ None (le-leb (sum + b) 65535 h) ∙ cond-true (ltb b 255) (Some (sum + b, drop (next + 1) bs)) _ (lt-ltb b 255 k))
+
+-- the last byte of a count, in the bytes from a place on
+pub counted-end : (bs rest : List ℕ) (at sum i : ℕ) → rest ≡ drop at bs → i < length rest → sum + get_or rest i 0 ≤ 65535 → get_or rest i 0 < 255 →
+    counted sum (drop i rest) ≡ counted 0 (drop at bs) → counted 0 (drop at bs) ≡ Some (sum + get_or rest i 0, drop (at + i + 1) bs)
+counted-end bs rest at sum i from within h k same =
+    let d : drop (i + 1) rest ≡ drop (at + i + 1) bs = ap (drop (i + 1)) from ∙ (drop-drop (i + 1) at bs ∙ ap (λ (n : ℕ). drop n bs) (omega arith)) in
+    sym same ∙ (counted-last rest sum i (get_or rest i 0) within refl h k ∙ ap (λ (x : List ℕ). Some (sum + get_or rest i 0, x)) d)
 
 -- a message by its parts
 pub message-no-type : (bs : List ℕ) → counted 0 bs ≡ None → message bs ≡ None
@@ -59,4 +66,4 @@ found-end bs at next start t n e f h k =
 pub ruleset none_here = (message-no-type, message-no-size, message-short, placed-none, length-drop)
 
 -- a count at a place
-pub ruleset counted_here = (counted-last, length-count)
+pub ruleset counted_here = (counted-end, length-count)

@@ -1,17 +1,16 @@
 -- What a source answers, and what the source over clean bytes has to come.
-use Rattle.std.specs.Prelude.{◌≡◌, ℕ, ◌%◌, Bool, true, false, List, [], ◌∷◌, nat_lt, refl}
+use Rattle.std.specs.Prelude.{◌≡◌, ℕ, ◌%◌, Bool, true, false, List, [], ◌∷◌, Some, None, Ok, Err, Option, Result, nat_lt, refl}
 use Rattle.std.proofs.Common.{mod-lt, lit<}
 use Rattle.std.proofs.Math.Pow.{are_bytes}
 use Rattle.std.proofs.lemmas.Bool.{lt-ltb, and_from}
-use Rattle.units.specs.declared.source.Next.{Next}
-use Rattle.units.specs.declared.source.Next.TheVariants.{Byte, End, Fault}
+use Rattle.units.specs.declared.source.SourceFault.{SourceFault}
 use Rattle.units.specs.declared.source.Clean.{Clean}
 
 -- the answer of a source with the bytes xs to come, and a fault after them where f, that has ys and g then
-abbrev pub Pulled : Next → List ℕ → Bool → List ℕ → Bool → Type 0
-Pulled (Byte b) xs f ys g = (xs ≡ b ∷ ys) × (g ≡ f)
-Pulled End xs f ys g = (xs ≡ []) × (f ≡ false) × (ys ≡ []) × (g ≡ false)
-Pulled Fault xs f ys g = (xs ≡ []) × (f ≡ true) × (ys ≡ []) × (g ≡ true)
+abbrev pub Pulled : Result (Option ℕ) SourceFault → List ℕ → Bool → List ℕ → Bool → Type 0
+Pulled (Ok (Some b)) xs f ys g = (xs ≡ b ∷ ys) × (g ≡ f)
+Pulled (Ok None) xs f ys g = (xs ≡ []) × (f ≡ false) × (ys ≡ []) × (g ≡ false)
+Pulled (Err e) xs f ys g = (xs ≡ []) × (f ≡ true) × (ys ≡ []) × (g ≡ true)
 
 -- numbers as bytes: what a slice of bytes holds is left as it is
 abbrev pub as_bytes : List ℕ → List ℕ

@@ -31,15 +31,13 @@ impl Fault for UnitFault {
     fn layer(&self) -> Layer {
         match *self {
             UnitFault::Source { .. } => Layer::Source,
-            UnitFault::Room { .. } => Layer::Unit,
-            UnitFault::Frame { .. } => Layer::Unit,
+            UnitFault::Room { .. } | UnitFault::Frame { .. } => Layer::Unit,
         }
     }
 
     fn place(&self) -> usize {
         match *self {
-            UnitFault::Source { taken } => taken,
-            UnitFault::Room { taken } => taken,
+            UnitFault::Source { taken } | UnitFault::Room { taken } => taken,
             UnitFault::Frame { at } => at,
         }
     }

@@ -16,6 +16,7 @@ pub const GREATEST: u32 = 65_535;
 // A message: its type, the place of its first byte, and its payload.
 #[derive(Clone, Copy)]
 pub struct Message<'a> {
+    // any number may come, so it is no enum
     pub kind: u32,
     pub place: usize,
     pub payload: &'a [u8],
@@ -26,6 +27,7 @@ pub struct Message<'a> {
 pub struct Messages<'a> {
     // the bytes before the last
     body: &'a [u8],
+    // in the unit, as the place of a message is told
     at: usize,
 }
 
@@ -50,15 +52,13 @@ fn count_at(bytes: &[u8], at: usize) -> Option<Count>
     ensures { Counts result bytes.now at }
 {
     let mut value: u32 = 0;
-    let mut next = at;
-    while next < bytes.len() {
-        let byte = bytes[next];
-        value += byte as u32;
+    for (i, byte) in bytes.get(at..)?.iter().enumerate() {
+        value += *byte as u32;
         if value > GREATEST {
             return None;
         }
-        next += 1;
-        if byte < 255 {
+        if *byte < 255 {
+            let next = at + i + 1;
             return Some(Count { value, next });
         }
     }
@@ -90,6 +90,7 @@ fn messages_end(body: &[u8]) -> usize
     ensures { result + length (unheard body.now) ≡ length body.now }
 {
     let mut at = 0;
+    // `Messages` hands out no ends, and by `successors` it would be a chain with a closure and a case for none
     while let Some(found) = message_at(body, at) {
         at = found.end;
     }
@@ -102,17 +103,14 @@ impl<'a> Messages<'a> {
     pub fn new(bytes: &'a [u8]) -> Result<Messages<'a>, UnitFault>
         ensures { result_map_both coming (λ f. f) result ≡ judged bytes.now }
     {
-        let len = bytes.len();
-        if len == 0 {
+        let Some((last, body)) = bytes.split_last() else {
             return Ok(Messages { body: bytes, at: 0 });
+        };
+        if *last != LAST {
+            return Err(UnitFault::Frame { at: body.len() });
         }
-        let last = len - 1;
-        if bytes[last] != LAST {
-            return Err(UnitFault::Frame { at: last });
-        }
-        let body = &bytes[0..last];
         let end = messages_end(body);
-        if last == 0 || end < last {
+        if body.is_empty() || end < body.len() {
             return Err(UnitFault::Frame { at: end });
         }
         Ok(Messages { body, at: 0 })

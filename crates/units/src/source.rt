@@ -1,15 +1,11 @@
 // Sources of bytes, and the one over clean bytes.
-ghost use Rattle.std.specs.Prelude.{◌≡◌, ℕ, Bool, true, false, List, [], ◌∷◌, MatchOption};
+ghost use Rattle.std.specs.Prelude.{◌≡◌, ℕ, Bool, true, false, List};
 ghost use Rattle.std.proofs.Math.Pow.{are_bytes};
-ghost use Rattle.units.specs.Sources.{Pulled, as_bytes, clean_bytes, clean_are_bytes};
+ghost use Rattle.units.specs.Sources.{Pulled, clean_bytes, clean_are_bytes};
 
-// What a source answers.
+// A source faults.
 #[derive(Clone, Copy, PartialEq, Eq, Debug)]
-pub enum Next {
-    Byte(u8),
-    End,
-    Fault,
-}
+pub struct SourceFault {}
 
 // Bytes that come one at a time, and then an end or a fault.
 pub trait Source {
@@ -21,8 +17,8 @@ pub trait Source {
 
     ghost bytes: { (s : Self) → are_bytes (coming s) ≡ true };
 
-    // Takes the first byte; with none to come it answers the end or the fault, every time.
-    fn next(&mut self) -> Next
+    // Takes the first byte; with none to come it answers the end, which is no byte, or the fault, every time.
+    fn next(&mut self) -> Result<Option<u8>, SourceFault>
         ensures { Pulled result (coming self.old) (faulty self.old) (coming self.new) (faulty self.new) };
 }
 
@@ -55,21 +51,7 @@ impl<'a> Source for Clean<'a> {
 
     ghost bytes = { clean_are_bytes };
 
-    fn next(&mut self) -> Next {
-        let Some((byte, rest)) = first(self.rest) else {
-            return Next::End;
-        };
-        self.rest = rest;
-        Next::Byte(byte)
+    fn next(&mut self) -> Result<Option<u8>, SourceFault> {
+        Ok(self.rest.split_off_first().copied())
     }
-}
-
-// The first of some bytes, and those behind it.
-fn first(bytes: &[u8]) -> Option<(u8, &[u8])>
-    ensures { MatchOption result (as_bytes bytes.now ≡ []) (λ p. as_bytes bytes.now ≡ p.0 ∷ as_bytes p.1.now) }
-{
-    if bytes.len() == 0 {
-        return None;
-    }
-    Some((bytes[0], &bytes[1..]))
 }

@@ -1,7 +1,7 @@
 // The deep cases of the layer, the scratch and the frame.
 use crate::fill::fill;
 use crate::frame::Messages;
-use crate::source::{Clean, Source};
+use crate::source::{Clean, Source, SourceFault};
 use crate::unescaped::Unescaped;
 use crate::writer::{framed_len, put_last, put_message};
 use std::alloc::{AllocError, Global};
@@ -13,8 +13,17 @@ fn filled(heap: Global, below: &[u8], room: usize) -> Result<String, AllocError>
     let mut source = Unescaped::new(Clean::new(below));
     let room = room.min(5);
     let answer = fill(&mut source, &mut scratch[0..room]);
-    let next = source.next();
-    format!(in heap; "{answer:?} {scratch:?} {next:?}")
+    let next = told(heap, source.next())?;
+    format!(in heap; "{answer:?} {scratch:?} {next}")
+}
+
+// What a source answers.
+fn told(heap: Global, next: Result<Option<u8>, SourceFault>) -> Result<String, AllocError> {
+    match next {
+        Ok(Some(byte)) => format!(in heap; "Byte({byte})"),
+        Ok(None) => format!(in heap; "End"),
+        Err(_) => format!(in heap; "Fault"),
+    }
 }
 
 // The messages of a unit, or why it is refused.

@@ -1,13 +1,13 @@
 // The layer over a source that removes emulation prevention (Rec. ITU-T H.264, 7.4.1.1).
 ghost use Rattle.std.specs.Prelude.{◌≡◌};
 ghost use Rattle.units.specs.declared.source.Source.{Ghosts};
-ghost use Rattle.units.specs.Escapes.{fate_of};
+ghost use Rattle.units.specs.Escapes.{weighed};
 ghost use Rattle.units.specs.Layers.{unescaped_bytes, unescaped_faulty, unescaped_are_bytes, begun};
 
-use crate::source::{Next, Source};
+use crate::source::{Source, SourceFault};
 
 // What stands right before the next byte below: no zero, one, two, or two and a 03 that was removed.
-#[derive(Clone, Copy)]
+#[derive(Clone, Copy, PartialEq, Eq)]
 enum Zeros {
     None,
     One,
@@ -15,27 +15,16 @@ enum Zeros {
     Removed,
 }
 
-// What becomes of a byte below.
-#[derive(Clone, Copy)]
-enum Fate {
-    // it is handed over, and this stands before the next
-    Handed(Zeros),
-    // it was put in to prevent an emulation
-    Removed,
-    // no unit holds it there
-    Refused,
-}
-
-fn weigh(zeros: Zeros, byte: u8) -> Fate
-    ensures { result ≡ fate_of zeros byte }
+// What stands behind a byte below; the fault where no unit holds it there.
+fn weigh(zeros: Zeros, byte: u8) -> Result<Zeros, SourceFault>
+    ensures { result ≡ weighed zeros byte }
 {
     match (zeros, byte) {
-        (Zeros::Two, 0..=2) => Fate::Refused,
-        (Zeros::Two, 3) => Fate::Removed,
-        (Zeros::Removed, 4..=255) => Fate::Refused,
-        (Zeros::One, 0) => Fate::Handed(Zeros::Two),
-        (_, 0) => Fate::Handed(Zeros::One),
-        _ => Fate::Handed(Zeros::None),
+        (Zeros::Two, 0..=2) | (Zeros::Removed, 4..=255) => Err(SourceFault {}),
+        (Zeros::Two, 3) => Ok(Zeros::Removed),
+        (Zeros::One, 0) => Ok(Zeros::Two),
+        (_, 0) => Ok(Zeros::One),
+        _ => Ok(Zeros::None),
     }
 }
 
@@ -43,8 +32,8 @@ fn weigh(zeros: Zeros, byte: u8) -> Fate
 #[derive(Drop)]
 pub struct Unescaped<S> {
     below: S,
-    zeros: Zeros,
-    broken: bool,
+    // or the fault, which stays
+    zeros: Result<Zeros, SourceFault>,
 }
 
 impl<S: Source> Unescaped<S> {
@@ -53,8 +42,7 @@ impl<S: Source> Unescaped<S> {
     {
         Unescaped {
             below,
-            zeros: Zeros::None,
-            broken: false,
+            zeros: Ok(Zeros::None),
         }
     }
 }
@@ -66,26 +54,15 @@ impl<S: Source> Source for Unescaped<S> {
 
     ghost bytes = { unescaped_are_bytes S.Source };
 
-    fn next(&mut self) -> Next {
-        if self.broken {
-            return Next::Fault;
-        }
-        loop {
-            match self.below.next() {
-                Next::Byte(byte) => match weigh(self.zeros, byte) {
-                    Fate::Handed(zeros) => {
-                        self.zeros = zeros;
-                        return Next::Byte(byte);
-                    }
-                    Fate::Removed => self.zeros = Zeros::Removed,
-                    Fate::Refused => {
-                        self.broken = true;
-                        return Next::Fault;
-                    }
-                },
-                Next::End => return Next::End,
-                Next::Fault => return Next::Fault,
+    fn next(&mut self) -> Result<Option<u8>, SourceFault> {
+        let mut zeros = self.zeros?;
+        while let Some(byte) = self.below.next()? {
+            self.zeros = weigh(zeros, byte);
+            zeros = self.zeros?;
+            if zeros != Zeros::Removed {
+                return Ok(Some(byte));
             }
         }
+        Ok(None)
     }
 }

@@ -29,11 +29,11 @@ fn has_room(kind: u32, size: usize, len: usize, at: usize) -> bool
     ensures value { result ≡ fits kind size at len }
     ensures room { result ≡ true → at + framed_length kind size ≤ len }
 {
-    match framed_len(kind, size) {
-        Some(framed) => at <= len && framed <= len - at,
-        None => false,
-    }
+    framed_len(kind, size).is_some_and(|framed| at <= len && framed <= len - at)
 }
+
+// The buffer and the place stay two parameters: with a struct of both, each contract would say besides that the buffer
+// is still the one that was lent.
 
 // Writes a type or a size from a place on, and answers the place behind it.
 #[tactic(auto, using(crate::proofs::Writings::count_writes))]
@@ -42,15 +42,10 @@ fn put_count(number: usize, buffer: &mut [u8], at: usize) -> usize
     ensures place { result ≡ at + length (count number) }
     ensures bytes { buffer.new ≡ put at (count number) buffer.old }
 {
-    let mut left = number;
-    let mut place = at;
-    while left >= 255 {
-        buffer[place] = 255;
-        place += 1;
-        left -= 255;
-    }
-    buffer[place] = left as u8;
-    place + 1
+    let last = at + number / 255;
+    buffer[at..last].fill(255);
+    buffer[last] = (number % 255) as u8;
+    last + 1
 }
 
 // Writes a type and a size, one after the other. The clause `len` follows from `place`, and is there for the callers' search.

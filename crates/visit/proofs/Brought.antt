@@ -42,6 +42,9 @@ few-judged bs =
 pub few-messages : (bs : List ℕ) (xs : List (ℕ × Message)) → Ok xs ≡ judged bs → length xs ≤ length bs
 few-messages bs xs e = let P : Result (List (ℕ × Message)) UnitFault → Type 0 = λ r. Few (length bs) r in subst P (sym e) (few-judged bs)
 
+-- a unit's messages can be counted
+pub ruleset countable = (few-messages)
+
 -- ---- the bytes of a filled scratch
 
 ok_same : (x y : ℕ) → ◌≡◌ {A = Result ℕ UnitFault} (Ok x) (Ok y) → x ≡ y
@@ -63,3 +66,6 @@ brought-whole bs scratch after fault len e f =
     let front : take (len - 0) after ≡ bs =
     ap (take (len - 0)) (f ∙ ap (λ (x : List ℕ). x ++ drop (length x) scratch) all) ∙ take_at bs (drop (length bs) scratch) (len - 0) (omega (arith, w.1)) in
     ap (λ r. framed_by r bs) (sym e) ∙ ap judged (sym front)
+
+-- what a filled scratch brings
+pub ruleset filling_brought = (brought-whole)

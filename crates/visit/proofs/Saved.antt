@@ -16,10 +16,6 @@ use Rattle.book.proofs.Replays.{parts-limited, parts-short}
 
 -- ---- all kinds' parts are their messages
 
-and_then-then : {A B C : Type 0} (o : Option A) (f : A → Option B) (g : B → Option C) → and_then (and_then o f) g ≡ and_then o (λ a. and_then (f a) g)
-and_then-then (Some a) f g = refl
-and_then-then None f g = refl
-
 sized-append : (ms ns : List Message) (s : Size) → sized (ms ++ ns) s ≡ and_then (sized ms s) (sized ns)
 sized-append [] ns s = refl
 sized-append (m ∷ ms) ns s = step (more s m.0 (length m.1)) (sized-append ms ns)
@@ -118,41 +114,14 @@ few [] = omega arith
 few (m ∷ ms) = omega (arith, length-append (framed m) (frames ms), length_whole m.0 m.1, few ms, length-count m.0)
 
 -- how much all parts take
-pub size-told : (ks : Models) (m : Meanings ks) (o : Option Size) → AllLimited (messages ks m) → length (frames (messages ks m)) ≤ 65535 → o ≡ sizes ks m (record { bytes = 0; messages = 0 }) →
-    o ≡ Some (record { bytes = 0 + length (frames (messages ks m)); messages = 0 + length (messages ks m) })
-size-told ks m o l h e =
+pub sizes-told : (ks : Models) (m : Meanings ks) → AllLimited (messages ks m) → length (frames (messages ks m)) ≤ 65535 →
+    sizes ks m (record { bytes = 0; messages = 0 }) ≡ Some (record { bytes = 0 + length (frames (messages ks m)); messages = 0 + length (messages ks m) })
+sizes-told ks m l h =
     let ms : List Message = messages ks m in
-    e ∙ (sizes-all ks m (record { bytes = 0; messages = 0 }) ∙ sized-sum ms (record { bytes = 0; messages = 0 }) l (omega arith) (omega (arith, few ms)))
-
-some_bytes : (s t : Size) → Some s ≡ Some t → s.bytes ≡ t.bytes
-some_bytes s t e = ap bytes_of e
-  where
-    bytes_of : Option Size → ℕ
-    bytes_of (Some x) = x.bytes
-    bytes_of None = 0
-
-some-messages : (s t : Size) → Some s ≡ Some t → s.messages ≡ t.messages
-some-messages s t e = ap messages_of e
-  where
-    messages_of : Option Size → ℕ
-    messages_of (Some x) = x.messages
-    messages_of None = 0
-
--- the size that was told
-pub record Sized (ms : List Message) (s : Size) : Type 0 where
-  pub bytes : s.bytes ≡ length (frames ms)
-  pub messages : s.messages ≡ length ms
-
-pub sized-as : (ks : Models) (m : Meanings ks) (s : Size) → AllLimited (messages ks m) → length (frames (messages ks m)) ≤ 65535 → Some s ≡ sizes ks m (record { bytes = 0; messages = 0 }) → Sized (messages ks m) s
-sized-as ks m s l h e =
-    let f = size-told ks m (Some s) l h e in
-    record { bytes = omega (arith, some_bytes s _ f); messages = omega (arith, some-messages s _ f) }
-
-pub never-none : (ks : Models) (m : Meanings ks) → AllLimited (messages ks m) → length (frames (messages ks m)) ≤ 65535 → None ≡ sizes ks m (record { bytes = 0; messages = 0 }) → ⊥
-never-none ks m l h e = let f = size-told ks m None l h e in let z : ◌≡◌ {A = ℕ} 0 1 = cc in omega arith
+    sizes-all ks m (record { bytes = 0; messages = 0 }) ∙ sized-sum ms (record { bytes = 0; messages = 0 }) l (omega arith) (omega (arith, few ms))
 
 -- with no message it is no byte
-pub saved-none : (ms : List Message) (b : List ℕ) → length ms ≡ 0 → saved ms b ≡ (Ok (0, 0), b)
+pub saved-none : (ms : List Message) (b : List ℕ) → length ms ≡ 0 → saved ms b ≡ (Ok (record { len = 0; messages = 0 }), b)
 saved-none [] b e = cond-true (leb 0 (length b)) _ _ (le-leb 0 (length b) (omega arith))
 saved-none (m ∷ ms) b e = absurd (omega arith)
 
@@ -185,41 +154,16 @@ closed_all ms b l h n =
     ∙ (cond-true (ltb at (length c)) _ _ (lt-ltb at (length c) (omega arith))
     ∙ (ap (λ (x : ℕ). (Some x, set c at 128)) e ∙ ap (λ (x : List ℕ). (Some (length (unit_bytes ms)), x)) f))
 
-pub saved-all : (ms : List Message) (b : List ℕ) → 0 < length ms → length (frames ms) < length b → saved ms b ≡ (Ok (length (unit_bytes ms), length ms), fronted (unit_bytes ms) b)
+pub saved-all : (ms : List Message) (b : List ℕ) → 0 < length ms → length (frames ms) < length b → saved ms b ≡ (Ok (record { len = length (unit_bytes ms); messages = length ms }), fronted (unit_bytes ms) b)
 saved-all ms b h n = cond-true (leb (length (unit_bytes ms)) (length b)) _ _ (le-leb (length (unit_bytes ms)) (length b) (omega (arith, length-unit ms h)))
 
 -- what is written of all kinds, where there is room
-pub unit-put : (ks : Models) (m : Meanings ks) (s : Size) (b : List ℕ) → AllLimited (messages ks m) → Sized (messages ks m) s → (s.messages ≡ 0 → ⊥) → s.bytes < length b →
+pub unit-put : (ks : Models) (m : Meanings ks) (b : List ℕ) → AllLimited (messages ks m) → 0 < length (messages ks m) → length (frames (messages ks m)) < length b →
     closed (writes ks m 0 b) ≡ (Some (length (unit_bytes (messages ks m))), fronted (unit_bytes (messages ks m)) b)
-unit-put ks m s b l z some room =
-    let ms : List Message = messages ks m in
-    let e = z.bytes in
-    let f = z.messages in
-    let more : 0 < length ms = omega arith in
-    ap closed (writes-all ks m 0 b) ∙ closed_all ms b l more (omega arith)
+unit-put ks m b l some room = ap closed (writes-all ks m 0 b) ∙ closed_all (messages ks m) b l some room
 
-some_is : (n k : ℕ) → Some n ≡ Some k → n ≡ k
-some_is n k e = cc
-
-pub saved-put : (ks : Models) (m : Meanings ks) (s : Size) (b c : List ℕ) (n : ℕ) → AllLimited (messages ks m) → Sized (messages ks m) s → (s.messages ≡ 0 → ⊥) → s.bytes < length b →
-    Some n ≡ (closed (writes ks m 0 b)).0 → c ≡ (closed (writes ks m 0 b)).1 → (Ok (n, s.messages), c) ≡ saved (messages ks m) b
-saved-put ks m s b c n l z some room e f =
-    let ms : List Message = messages ks m in
-    let w = unit-put ks m s b l z some room in
-    let long : n ≡ length (unit_bytes ms) = some_is n (length (unit_bytes ms)) (e ∙ ap (λ x. x.0) w) in
-    let g = z.bytes in
-    let h = z.messages in
-    let more : 0 < length ms = omega arith in
-    ap (λ (x : ℕ). (Ok (x, s.messages), c)) long
-    ∙ (ap (λ (x : ℕ). (Ok (length (unit_bytes ms), x), c)) h
-    ∙ (ap (λ (x : List ℕ). (Ok (length (unit_bytes ms), length ms), x)) (f ∙ ap (λ x. x.1) w)
-    ∙ sym (saved-all ms b more (omega arith))))
-
-pub never-unwritten : (ks : Models) (m : Meanings ks) (s : Size) (b : List ℕ) → AllLimited (messages ks m) → Sized (messages ks m) s → (s.messages ≡ 0 → ⊥) → s.bytes < length b → None ≡ (closed (writes ks m 0 b)).0 → ⊥
-never-unwritten ks m s b l z some room e =
-    let f : None ≡ Some (length (unit_bytes (messages ks m))) = e ∙ ap (λ x. x.0) (unit-put ks m s b l z some room) in
-    let y : ◌≡◌ {A = ℕ} 0 1 = cc in
-    omega arith
+-- what is saved of parts that were measured
+pub ruleset saving = (sizes-told, saved-none, saved-short, saved-all, unit-put)
 
 -- what is in force in a visit can be saved
 pub ruleset savable = (parts-limited, parts-short)

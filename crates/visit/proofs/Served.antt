@@ -1,16 +1,12 @@
 -- Calls made one after the other, with vectors for their buffers.
-use Rattle.std.proofs.Common.{◌≡◌, ℕ, suc, ◌+◌, ◌<◌, ◌≤◌, Bool, true, cond, ltb, List, [], ◌∷◌, ◌++◌, map, length, get_or, take, drop, set, Option, Result, sym, ap, ◌∙◌, subst, append_assoc, append-nil, arith}
+use Rattle.std.proofs.Common.{◌≡◌, ℕ, suc, ◌+◌, ◌<◌, ◌≤◌, true, ltb, List, [], ◌∷◌, ◌++◌, map, length, get_or, take, drop, set, Option, sym, ap, ◌∙◌, subst, append_assoc, append-nil, arith}
 use lib.Pow.{are_bytes}
-use Rattle.std.proofs.lemmas.List.{take_at, take_all, drop_all, drop_more, drop-drop, take_more, take_more_set, drop-set-lt, get_or-drop, map-append}
+use Rattle.std.proofs.lemmas.List.{take_all, drop_all, drop_more, drop-drop, take_more, take_more_set, drop-set-lt, get_or-drop, map-append}
 use Rattle.std.proofs.lemmas.Bool.{and_parts, ltb-true}
 use Rattle.kinds.specs.Model.{Bytes}
-use Rattle.units.specs.Fills.{filled, unfilled}
 use Rattle.book.specs.declared.answer.Answer.{Answer}
-use Rattle.book.specs.declared.answer.Answer.TheVariants.{Unit as ToUnit}
-use Rattle.book.specs.declared.answer.Tally.{Tally}
-use Rattle.book.specs.declared.fault.Refusal.{Refusal}
 use Rattle.book.specs.Models.{Models}
-use Rattle.book.specs.Book.{Asked, unit, Book, step, run, told_unit, reply, replies}
+use Rattle.book.specs.Book.{Asked, Book, step, run, reply, replies}
 use Rattle.book.specs.Trust.{Fit, Fits}
 use Rattle.visit.specs.Calls.{answered}
 
@@ -24,27 +20,8 @@ pub bytes-known : (xs : List ℕ) → are_bytes xs ≡ true → Bytes xs
 bytes-known [] h = tt
 bytes-known (x ∷ xs) h = let p = and_parts (ltb x 256) (are_bytes xs) h in (ltb-true x 256 p.0, bytes-known xs p.1)
 
--- a vector's slice that was written is its items
-lent : (len : ℕ) (ws items : List ℕ) → length ws ≡ len → take len (ws ++ drop (length ws) items) ≡ ws
-lent len ws items n = take_at ws (drop (length ws) items) len n
-
--- a call that answers and writes as the book tells
-pub told_back : {R : Type 0} (to : R → Answer) (as' : List ℕ → Asked) (told : List ℕ → R × List ℕ) (len : ℕ) (ws items xs ys : List ℕ) (r : R) →
-    length ws ≡ len → r ≡ (told xs).0 → ws ≡ (told xs).1 → xs ≡ ys → ◌≡◌ {A = Answer × Asked} (to r, as' (take len (ws ++ drop (length ws) items))) (to (told ys).0, as' (told ys).1)
-told_back to as' told len ws items xs ys r n e f g =
-    ap (λ x. (to x, as' (take len (ws ++ drop (length ws) items)))) e
-    ∙ (ap (λ x. (to (told xs).0, as' x)) (lent len ws items n ∙ f) ∙ ap (λ x. (to (told x).0, as' (told x).1)) g)
-
--- the same of a unit, with what its source has left
-pub unit-back : (ks : Models) (b : Book ks) (bs cs : List ℕ) (fault left : Bool) (len : ℕ) (ws items xs ys : List ℕ) (r : Result Tally Refusal) →
-    length ws ≡ len → r ≡ told_unit ks b bs fault xs → ws ≡ cond b.0 (filled bs xs) xs → cs ≡ cond b.0 (unfilled bs xs) bs → left ≡ fault → xs ≡ ys →
-    ◌≡◌ {A = Answer × Asked} (ToUnit r, unit cs left (take len (ws ++ drop (length ws) items))) (reply ks b (unit bs fault ys))
-unit-back ks b bs cs fault left len ws items xs ys r n e f g h i =
-    ap (λ x. (ToUnit x, unit cs left (take len (ws ++ drop (length ws) items)))) e
-    ∙ (ap (λ x. (ToUnit (told_unit ks b bs fault xs), unit x left (take len (ws ++ drop (length ws) items)))) g
-    ∙ (ap (λ x. (ToUnit (told_unit ks b bs fault xs), unit (cond b.0 (unfilled bs xs) bs) x (take len (ws ++ drop (length ws) items)))) h
-    ∙ (ap (λ x. (ToUnit (told_unit ks b bs fault xs), unit (cond b.0 (unfilled bs xs) bs) fault x)) (lent len ws items n ∙ f)
-    ∙ ap (λ x. reply ks b (unit bs fault x)) i)))
+-- what a slice holds are bytes, and what a source has to come
+pub ruleset carried = (bytes-from, bytes-known)
 
 -- ---- a turn of `serve`
 

@@ -6,6 +6,7 @@ ghost use Rattle.book.specs.Models.{messages};
 ghost use Rattle.book.specs.Book.{saved};
 ghost use Rattle.sets.specs.Parts.{writes, closed};
 
+use book::answer::Saved;
 use book::fault::Refusal;
 use sets::list::Kinds;
 use sets::parts::Size;
@@ -22,7 +23,8 @@ fn put_unit<R: Kinds>(kinds: &R, buffer: &mut [u8]) -> Option<usize>
 
 // Saves every kind's part as a unit at the buffer's front: its length, and the number of its messages. With nothing
 // in force it is no byte.
-pub fn save<R: Kinds>(kinds: &R, buffer: &mut [u8]) -> Result<(usize, usize), Refusal>
+#[tactic(auto, using(crate::proofs::Saved::saving))]
+pub fn save<R: Kinds>(kinds: &R, buffer: &mut [u8]) -> Result<Saved, Refusal>
     requires limited { AllLimited (messages R.Kinds.models (R.Kinds.meanings kinds.now)) }
     requires short { length (frames (messages R.Kinds.models (R.Kinds.meanings kinds.now))) ≤ 65535 }
     ensures answer { result ≡ (saved (messages R.Kinds.models (R.Kinds.meanings kinds.now)) buffer.old).0 }
@@ -32,17 +34,19 @@ pub fn save<R: Kinds>(kinds: &R, buffer: &mut [u8]) -> Result<(usize, usize), Re
         bytes: 0,
         messages: 0,
     };
-    let Some(size) = kinds.with_parts(nothing) else {
-        return Err(Refusal::ShortBuffer);
-    };
+    let size = kinds.with_parts(nothing).ok_or(Refusal::ShortBuffer)?;
     if size.messages == 0 {
-        return Ok((0, 0));
+        return Ok(Saved {
+            len: 0,
+            messages: 0,
+        });
     }
     if size.bytes >= buffer.len() {
         return Err(Refusal::ShortBuffer);
     }
-    match put_unit(kinds, buffer) {
-        Some(len) => Ok((len, size.messages)),
-        None => Err(Refusal::ShortBuffer),
-    }
+    let len = put_unit(kinds, buffer).ok_or(Refusal::ShortBuffer)?;
+    Ok(Saved {
+        len,
+        messages: size.messages,
+    })
 }

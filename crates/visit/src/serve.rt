@@ -1,8 +1,6 @@
 // Any list of calls, served one after the other.
 ghost use Rattle.std.specs.Prelude.{◌≡◌, map};
-ghost use Rattle.kinds.specs.Model.{Bytes};
-ghost use Rattle.book.specs.declared.answer.Answer.TheVariants.{Message as ToMessage};
-ghost use Rattle.book.specs.Book.{step, message, told_message, reply};
+ghost use Rattle.book.specs.Book.{step, reply};
 ghost use Rattle.book.specs.Trust.{Fit};
 ghost use Rattle.visit.specs.Calls.{asked, asks, holds, answered, Served};
 ghost use Rattle.visit.specs.Visits.{book};
@@ -46,16 +44,8 @@ pub struct Request<X> {
 }
 
 impl<S: Set> Visit<S> {
-    // Apart from `make`, since a slice is known to hold bytes only where it is passed on.
-    fn make_message(&mut self, kind: u32, payload: &[u8]) -> Answer
-        ensures answer { result ≡ ToMessage (told_message S.List.Kinds.models (book S.List.Kinds self.old) kind payload.now) }
-        ensures after { book S.List.Kinds self.new ≡ step S.List.Kinds.models (book S.List.Kinds self.old) (message kind payload.now) }
-        ensures fit { Bytes payload.now }
-    {
-        Answer::Message(self.message(kind, payload))
-    }
-
-    // Makes one call.
+    // Makes one call. Calls are data, since the law of whole runs is of lists of them.
+    #[tactic(auto, using(crate::proofs::Served::carried))]
     fn make<X: Source>(&mut self, call: &mut Call<X>) -> Answer
         ensures after { book S.List.Kinds self.new ≡ step S.List.Kinds.models (book S.List.Kinds self.old) (asked X.Source call.old) }
         ensures reply { (result, asked X.Source call.new) ≡ reply S.List.Kinds.models (book S.List.Kinds self.old) (asked X.Source call.old) }
@@ -70,7 +60,9 @@ impl<S: Set> Visit<S> {
                 self.clear();
                 Answer::Done
             }
-            Call::Message { kind, payload } => self.make_message(*kind, payload.as_slice()),
+            Call::Message { kind, payload } => {
+                Answer::Message(self.message(*kind, payload.as_slice()))
+            }
             Call::Unit { source, scratch } => Answer::Unit(self.unit(
                 source,
                 scratch.as_mut_slice(),
@@ -98,8 +90,8 @@ impl<S: Set> Visit<S> {
     pub fn serve<X: Source>(&mut self, requests: &mut [Request<X>])
         ensures { Served S.List.Kinds.models (book S.List.Kinds self.old) (book S.List.Kinds self.new) (map (asks X.Source) requests.old) (map (holds X.Source) requests.new) }
     {
-        for i in 0..requests.len() {
-            self.answer_to(&mut requests[i]);
+        for request in requests {
+            self.answer_to(request);
         }
     }
 }

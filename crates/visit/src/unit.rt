@@ -17,22 +17,22 @@ use units::source::Source;
 
 // The tally with what a message at a place was told.
 fn note(tally: Tally, place: usize, told: Result<Offered, OfferFault>) -> Tally
-    requires { tally.counts.0 + tally.counts.1 + tally.counts.2 < 18446744073709551615 }
+    requires { tally.granted + tally.refused + tally.passed < 18446744073709551615 }
     ensures { result ≡ noted tally place told }
 {
-    let (granted, refused, passed) = tally.counts;
     match told {
         Ok(Offered::Granted) => Tally {
-            counts: (granted + 1, refused, passed),
-            refusal: tally.refusal,
+            granted: tally.granted + 1,
+            ..tally
         },
         Ok(Offered::Passed) => Tally {
-            counts: (granted, refused, passed + 1),
-            refusal: tally.refusal,
+            passed: tally.passed + 1,
+            ..tally
         },
         Err(fault) => Tally {
-            counts: (granted, refused + 1, passed),
+            refused: tally.refused + 1,
             refusal: Some(tally.refusal.unwrap_or(MessageFault { place, fault })),
+            ..tally
         },
     }
 }
@@ -44,7 +44,9 @@ fn offer_all<R: Kinds>(kinds: &mut R, messages: Messages) -> Tally
     ensures after { R.Kinds.meanings kinds.new ≡ offered_all R.Kinds.models (R.Kinds.meanings kinds.old) (coming messages.entry) }
 {
     let mut tally = Tally {
-        counts: (0, 0, 0),
+        granted: 0,
+        refused: 0,
+        passed: 0,
         refusal: None,
     };
     for message in messages {
@@ -55,6 +57,7 @@ fn offer_all<R: Kinds>(kinds: &mut R, messages: Messages) -> Tally
 }
 
 // Judges the frame of a unit's bytes, and offers every message in turn.
+#[tactic(auto, using(crate::proofs::Brought::countable))]
 fn offer_bytes<R: Kinds>(kinds: &mut R, bytes: &[u8]) -> Result<Tally, UnitFault>
     ensures answer { result ≡ result_map_both (tallied R.Kinds.models (R.Kinds.meanings kinds.old) untold) (λ f. f) (framing bytes.now) }
     ensures after { R.Kinds.meanings kinds.new ≡ offered_from R.Kinds.models (R.Kinds.meanings kinds.old) (framing bytes.now) }
@@ -64,6 +67,7 @@ fn offer_bytes<R: Kinds>(kinds: &mut R, bytes: &[u8]) -> Result<Tally, UnitFault
 }
 
 // Fills the scratch from the source, judges the frame, and offers every message in turn.
+#[tactic(auto, using(crate::proofs::Brought::filling_brought))]
 pub fn offer_unit<R: Kinds, X: Source>(
     kinds: &mut R,
     source: &mut X,

@@ -23,7 +23,7 @@ impl<'a> Reader<'a> {
         ensures reads { Reads (fixed width) self.old result self.new }
         ensures fits { IfOk result (λ v. v < 2 ^ width) }
     {
-        let (value, end) = fixed_at(self.bytes, self.at, width)?;
+        let (value, end) = self.find_bits(width)?;
         self.at = end;
         Ok(value)
     }
@@ -46,12 +46,12 @@ impl<'a> Reader<'a> {
         ensures reads { ReadsSigned (within (u 32) (between low high)) self.old result self.new }
         ensures fits { IfOk result (λ x. (low ≤ℤ x) × (x ≤ℤ high)) }
     {
-        let start = self.at;
-        let value = self.signed()?;
+        let (bits, end) = self.find_bits(32)?;
+        let value = bits.cast_signed();
         if value < low || value > high {
-            self.at = start;
-            return Err(FieldFault::OutOfRange(start));
+            return Err(FieldFault::OutOfRange(self.at));
         }
+        self.at = end;
         Ok(value)
     }
 
@@ -59,7 +59,7 @@ impl<'a> Reader<'a> {
     pub fn ue(&mut self) -> Result<u32, FieldFault>
         ensures { Reads ue self.old result self.new }
     {
-        let (value, behind) = ue_at(self.bytes, self.at)?;
+        let (value, behind) = self.find_ue()?;
         self.at = behind;
         Ok(value)
     }
@@ -69,12 +69,11 @@ impl<'a> Reader<'a> {
         ensures reads { Reads (within ue (at_most most)) self.old result self.new }
         ensures fits { IfOk result (λ v. v ≤ most) }
     {
-        let start = self.at;
-        let value = self.ue()?;
+        let (value, end) = self.find_ue()?;
         if value > most {
-            self.at = start;
-            return Err(FieldFault::OutOfRange(start));
+            return Err(FieldFault::OutOfRange(self.at));
         }
+        self.at = end;
         Ok(value)
     }
 
@@ -82,7 +81,7 @@ impl<'a> Reader<'a> {
     pub fn close(self) -> Result<(), FieldFault>
         ensures { result ≡ closes (left self.entry) }
     {
-        ends_at(self.bytes, self.at)
+        self.ends()
     }
 
     // The same after an extension bit, which lets anything follow where it is set.
@@ -93,6 +92,80 @@ impl<'a> Reader<'a> {
     }
 }
 
+impl<'a> Reader<'a> {
+    // The number in the next `width` bits, and the bit behind them.
+    pub(super) fn find_bits(&self, width: u32) -> Result<(u32, usize), FieldFault>
+        ensures found { Found (fixed width) self.now.bytes.now self.now.at result }
+        ensures fits { IfOk result (λ a. a.0 < 2 ^ width) }
+    {
+        if width > 32 {
+            return Err(FieldFault::OutOfRange(self.at));
+        }
+        let end = self.at + width as usize;
+        if end > self.bytes.len() * 8 {
+            return Err(FieldFault::Short(self.at));
+        }
+        Ok((self.window(self.at, width), end))
+    }
+
+    // The ue field that comes next, and the bit behind it.
+    fn find_ue(&self) -> Result<(u32, usize), FieldFault>
+        ensures { Found ue self.now.bytes.now self.now.at result }
+    {
+        let zeros = self.zeros();
+        if zeros == 32 {
+            return Err(FieldFault::OutOfRange(self.at));
+        }
+        let end = self.at + 2 * zeros as usize + 1;
+        if end > self.bytes.len() * 8 {
+            return Err(FieldFault::Short(self.at));
+        }
+        let value = self.window(self.at + zeros as usize, zeros + 1) - 1;
+        Ok((value, end))
+    }
+
+    // How many zeros come next, up to 32.
+    fn zeros(&self) -> u32
+        ensures { result ≡ min 32 (zeros (left self.now).rest) }
+    {
+        let ahead = (self.bytes.len() * 8 - self.at).min(32) as u32;
+        let head = self.window(self.at, ahead);
+        head.leading_zeros() - (32 - ahead)
+    }
+
+    // Whether the payload ends here.
+    fn ends(&self) -> Result<(), FieldFault>
+        ensures { result ≡ closes (left self.now) }
+    {
+        let room = self.bytes.len() * 8 - self.at;
+        let spare = (8 - self.at % 8) % 8;
+        if room != spare {
+            return Err(FieldFault::Ending(self.at));
+        }
+        let last = self.window(self.at, spare as u32);
+        if last != (1 << spare) >> 1 {
+            return Err(FieldFault::Ending(self.at));
+        }
+        Ok(())
+    }
+
+    // The number in the `width` bits from the bit `at` on: the bytes that hold them are joined, and what stands after and before is cut off.
+    fn window(&self, at: usize, width: u32) -> u32
+        requires { (at + width ≤ 8 * length self.now.bytes.now) × (width ≤ 32) }
+        ensures { result ≡ number (take width (drop at (bits_of self.now.bytes.now))) }
+    {
+        let end = at + width as usize;
+        let first = at / 8;
+        let last = (end + 7) / 8;
+        let mut joined: u64 = 0;
+        for b in &self.bytes[first..last] {
+            joined = joined << 8 | u64::from(*b);
+        }
+        let cut = joined >> (last * 8 - end);
+        (cut & ((1 << width) - 1)) as u32
+    }
+}
+
 // The first 65,535 bytes.
 fn limited(bytes: &[u8]) -> &[u8]
     ensures value { result.now ≡ take 65535 bytes.now }
@@ -100,80 +173,4 @@ fn limited(bytes: &[u8]) -> &[u8]
 {
     let len = bytes.len().min(65_535);
     &bytes[0..len]
-}
-
-// The number in the next `width` bits from the bit `at` on, and the bit behind them.
-fn fixed_at(bytes: &[u8], at: usize, width: u32) -> Result<(u32, usize), FieldFault>
-    requires { (at ≤ 8 * length bytes.now) × (length bytes.now ≤ 65535) }
-    ensures found { Found (fixed width) bytes.now at result }
-    ensures fits { IfOk result (λ a. a.0 < 2 ^ width) }
-{
-    if width > 32 {
-        return Err(FieldFault::OutOfRange(at));
-    }
-    let end = at + width as usize;
-    if end > bytes.len() * 8 {
-        return Err(FieldFault::Short(at));
-    }
-    Ok((window(bytes, at, width), end))
-}
-
-// The ue field from the bit `at` on, and the bit behind it.
-fn ue_at(bytes: &[u8], at: usize) -> Result<(u32, usize), FieldFault>
-    requires { (at ≤ 8 * length bytes.now) × (length bytes.now ≤ 65535) }
-    ensures { Found ue bytes.now at result }
-{
-    let zeros = zeros_at(bytes, at);
-    if zeros == 32 {
-        return Err(FieldFault::OutOfRange(at));
-    }
-    let end = at + 2 * zeros as usize + 1;
-    if end > bytes.len() * 8 {
-        return Err(FieldFault::Short(at));
-    }
-    let value = window(bytes, at + zeros as usize, zeros + 1) - 1;
-    Ok((value, end))
-}
-
-// How many zeros come next, up to 32.
-fn zeros_at(bytes: &[u8], at: usize) -> u32
-    requires { (at ≤ 8 * length bytes.now) × (length bytes.now ≤ 65535) }
-    ensures { result ≡ min 32 (zeros (drop at (bits_of bytes.now))) }
-{
-    let ahead = (bytes.len() * 8 - at).min(32) as u32;
-    let head = window(bytes, at, ahead);
-    head.leading_zeros() - (32 - ahead)
-}
-
-// Whether a payload ends at the bit `at`.
-fn ends_at(bytes: &[u8], at: usize) -> Result<(), FieldFault>
-    requires { (at ≤ 8 * length bytes.now) × (length bytes.now ≤ 65535) }
-    ensures { result ≡ closes (from bytes.now at) }
-{
-    let room = bytes.len() * 8 - at;
-    let spare = (8 - at % 8) % 8;
-    if room != spare {
-        return Err(FieldFault::Ending(at));
-    }
-    let last = window(bytes, at, spare as u32);
-    if last != (1 << spare) >> 1 {
-        return Err(FieldFault::Ending(at));
-    }
-    Ok(())
-}
-
-// The number in the `width` bits from the bit `at` on: the bytes that hold them are joined, and what stands after and before is cut off.
-fn window(bytes: &[u8], at: usize, width: u32) -> u32
-    requires { (at + width ≤ 8 * length bytes.now) × ((width ≤ 32) × (length bytes.now ≤ 65535)) }
-    ensures { result ≡ number (take width (drop at (bits_of bytes.now))) }
-{
-    let end = at + width as usize;
-    let first = at / 8;
-    let last = (end + 7) / 8;
-    let mut joined: u64 = 0;
-    for b in &bytes[first..last] {
-        joined = joined << 8 | *b as u64;
-    }
-    let cut = joined >> (last * 8 - end);
-    (cut & ((1 << width) - 1)) as u32
 }

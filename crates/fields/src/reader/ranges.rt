@@ -1,7 +1,7 @@
 // Fields whose numbers are judged.
 ghost use Rattle.std.specs.Prelude.{◌^◌, ◌<◌, ◌≤◌, IfOk};
 ghost use Rattle.layouts.specs.Layout.{fixed, within, positive, counted};
-ghost use Rattle.fields.specs.Reading.{Reads};
+ghost use Rattle.fields.specs.Reading.{Found, Reads};
 
 use crate::reader::Reader;
 use layouts::fault::FieldFault;
@@ -12,12 +12,8 @@ impl<'a> Reader<'a> {
         ensures reads { Reads (within (fixed width) positive) self.old result self.new }
         ensures fits { IfOk result (λ v. (0 < v) × (v < 2 ^ width)) }
     {
-        let start = self.at;
-        let value = self.bits(width)?;
-        if value == 0 {
-            self.at = start;
-            return Err(FieldFault::OutOfRange(start));
-        }
+        let (value, end) = self.find_positive(width)?;
+        self.at = end;
         Ok(value)
     }
 
@@ -26,12 +22,23 @@ impl<'a> Reader<'a> {
         ensures reads { Reads (within (fixed width) (counted most)) self.old result self.new }
         ensures fits { IfOk result (λ v. (0 < v) × (v ≤ most)) }
     {
-        let start = self.at;
-        let value = self.positive(width)?;
+        let (value, end) = self.find_positive(width)?;
         if value > most {
-            self.at = start;
-            return Err(FieldFault::PastLimit(start));
+            return Err(FieldFault::PastLimit(self.at));
         }
+        self.at = end;
         Ok(value)
+    }
+
+    // The number above 0 in the next `width` bits, and the bit behind them.
+    fn find_positive(&self, width: u32) -> Result<(u32, usize), FieldFault>
+        ensures found { Found (within (fixed width) positive) self.now.bytes.now self.now.at result }
+        ensures fits { IfOk result (λ a. (0 < a.0) × (a.0 < 2 ^ width)) }
+    {
+        let (value, end) = self.find_bits(width)?;
+        if value == 0 {
+            return Err(FieldFault::OutOfRange(self.at));
+        }
+        Ok((value, end))
     }
 }

@@ -28,22 +28,19 @@ impl<'a> Writer<'a> {
     // The `width` lowest bits of `value`, highest first; a width above 32 is none.
     pub fn bits(&mut self, width: u32, value: u32)
         ensures after { sheet self.new ≡ put (coded (fixed width) value) (sheet self.old) }
-        ensures lent { self.new.bytes.ghost_name ≡ self.old.bytes.ghost_name }
     {
-        self.word(digits(width), value as u64);
+        self.word(digits(width), u64::from(value));
     }
 
     pub fn flag(&mut self, on: bool)
         ensures after { sheet self.new ≡ put (coded (u 1) (bit on)) (sheet self.old) }
-        ensures lent { self.new.bytes.ghost_name ≡ self.old.bytes.ghost_name }
     {
-        self.bits(1, on as u32);
+        self.bits(1, u32::from(on));
     }
 
     // A signed number of 32 bits, in two's complement.
     pub fn signed(&mut self, value: i32)
         ensures after { sheet self.new ≡ put (coded (u 32) (of_z w32 value)) (sheet self.old) }
-        ensures lent { self.new.bytes.ghost_name ≡ self.old.bytes.ghost_name }
     {
         self.bits(32, value.cast_unsigned());
     }
@@ -51,15 +48,13 @@ impl<'a> Writer<'a> {
     // A ue field: as many zeros as `value + 1` has digits behind its first, and those digits. 2^32 - 1 has no code, and nothing is written.
     pub fn ue(&mut self, value: u32)
         ensures after { sheet self.new ≡ put (coded ue value) (sheet self.old) }
-        ensures lent { self.new.bytes.ghost_name ≡ self.old.bytes.ghost_name }
     {
-        self.word(ue_width(value), value as u64 + 1);
+        self.word(ue_width(value), u64::from(value) + 1);
     }
 
     // The payload ends here: a one and zeros up to the end of the byte, or nothing where a byte ends.
     pub fn close(&mut self)
         ensures after { sheet self.new ≡ put (closing self.old.at) (sheet self.old) }
-        ensures lent { self.new.bytes.ghost_name ≡ self.old.bytes.ghost_name }
     {
         let spare = spare_bits(self.at);
         self.word(spare, (1 << spare) >> 1);
@@ -68,7 +63,6 @@ impl<'a> Writer<'a> {
     // The same after an extension bit, which is written as 0.
     pub fn extension(&mut self)
         ensures after { sheet self.new ≡ lays extension [] (sheet self.old) }
-        ensures lent { self.new.bytes.ghost_name ≡ self.old.bytes.ghost_name }
     {
         self.bits(1, 0);
         self.close();
@@ -77,8 +71,7 @@ impl<'a> Writer<'a> {
     // The `width` lowest bits of `value`, in one piece: written where all of them fit, and counted in any case.
     fn word(&mut self, width: u32, value: u64)
         requires { width ≤ 64 }
-        ensures after { sheet self.new ≡ put (word width value) (sheet self.old) }
-        ensures lent { self.new.bytes.ghost_name ≡ self.old.bytes.ghost_name }
+        ensures { sheet self.new ≡ put (word width value) (sheet self.old) }
     {
         let at = self.at;
         let end = at.saturating_add(width as usize);
@@ -90,6 +83,7 @@ impl<'a> Writer<'a> {
 }
 
 // How many bits of a number of `width` bits are written: none of one above 32.
+#[tactic(auto, using(crate::proofs::Sheets::widths))]
 fn digits(width: u32) -> u32
     ensures digits { (v : ℕ) → word result v ≡ coded (fixed width) v }
     ensures few { result ≤ 64 }
@@ -98,6 +92,7 @@ fn digits(width: u32) -> u32
 }
 
 // How many bits close a payload that ends at the bit `at`.
+#[tactic(auto, using(crate::proofs::Sheets::widths))]
 fn spare_bits(at: usize) -> u32
     ensures digits { word result ((1 * 2 ^ result) % 2 ^ 64 / 2 ^ 1) ≡ closing at }
     ensures few { result < 8 }
@@ -106,6 +101,7 @@ fn spare_bits(at: usize) -> u32
 }
 
 // How many digits of `value + 1` make a ue field, the zeros before it among them.
+#[tactic(auto, using(crate::proofs::Sheets::widths))]
 fn ue_width(value: u32) -> u32
     ensures digits { word result (value + 1) ≡ coded ue value }
     ensures few { result ≤ 64 }
@@ -121,15 +117,18 @@ fn lay(bytes: &mut [u8], at: usize, width: u32, value: u64)
     requires { (at + width ≤ 8 * length bytes.old) × ((at + width ≤ 524280) × (width ≤ 64)) }
     ensures { bits_of bytes.new ≡ laid at (word width value) (bits_of bytes.old) }
 {
-    let mut left = width;
-    let mut place = at;
-    while left > 0 {
-        let free = 8 - (place % 8) as u32;
-        let n = left.min(free);
-        let i = place / 8;
-        left -= n;
-        bytes[i] = patched(bytes[i], free - n, n, value >> left);
-        place += n as usize;
+    let end = at + width as usize;
+    // by number, since a byte's place says which bits it has
+    for i in at / 8..(end + 7) / 8 {
+        let from = at.max(8 * i);
+        let to = end.min(8 * i + 8);
+        let low = 8 * i + 8 - to;
+        bytes[i] = patched(
+            bytes[i],
+            low as u32,
+            (to - from) as u32,
+            value >> (end - to),
+        );
     }
 }
 
@@ -138,8 +137,9 @@ fn patched(byte: u8, low: u32, n: u32, value: u64) -> u8
     requires { low + n ≤ 8 }
     ensures { word 8 result ≡ laid (8 - (low + n)) (word n value) (word 8 byte) }
 {
-    let above = byte as u64 >> (low + n);
+    let byte = u64::from(byte);
+    let above = byte >> (low + n);
     let upper = above << n | value & ((1 << n) - 1);
-    let joined = upper << low | byte as u64 & ((1 << low) - 1);
+    let joined = upper << low | byte & ((1 << low) - 1);
     (joined & 0xff) as u8
 }

@@ -1,6 +1,9 @@
 // Making the parts of a frame packing.
+ghost use Rattle.std.specs.Prelude.{◌≡◌};
+ghost use Rattle.frame_packing.specs.PackingIds.{reserved_id};
 ghost use Rattle.frame_packing.specs.FramePacking.{MakesId, MakesGrid, MakesArrangement};
 
+use crate::message::parts::gridless;
 use crate::message::{Arrangement, GridPositions, PackingFlags, PackingId};
 use layouts::fault::FieldFault;
 use records::period::Period;
@@ -10,10 +13,17 @@ impl PackingId {
     pub fn new(number: u32) -> Result<PackingId, FieldFault>
         ensures { MakesId number result }
     {
-        match number {
-            256..=511 | 2_147_483_648..=u32::MAX => Err(FieldFault::OutOfRange(0)),
-            _ => Ok(PackingId { number }),
+        if PackingId::is_reserved(number) {
+            return Err(FieldFault::OutOfRange(0));
         }
+        Ok(PackingId { number })
+    }
+
+    // Whether an id is reserved: from 256 to 511, and from 2,147,483,648 on.
+    pub fn is_reserved(number: u32) -> bool
+        ensures { result ≡ reserved_id number }
+    {
+        matches!(number, 256..=511 | 2_147_483_648..=u32::MAX)
     }
 }
 
@@ -55,8 +65,7 @@ impl Arrangement {
         if arrangement_type > 127 || content_interpretation > 63 {
             return Err(FieldFault::OutOfRange(0));
         }
-        let gridless = quincunx_sampling || arrangement_type == 5;
-        if grid.is_some() == gridless {
+        if grid.is_some() == gridless(quincunx_sampling, arrangement_type) {
             return Err(FieldFault::OutOfRange(0));
         }
         Ok(Arrangement {

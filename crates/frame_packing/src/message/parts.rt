@@ -3,6 +3,7 @@ ghost use Rattle.std.specs.Prelude.{◌≡◌, false, not, is_some, IfOk, Some};
 ghost use Rattle.fields.specs.Reading.{left};
 ghost use Rattle.fields.specs.Writing.{sheet, lays};
 ghost use Rattle.frame_packing.specs.FramePacking.{flags as flags_part, grid as grid_part, ending, content, flag_numbers, grid_numbers, period_numbers, content_numbers};
+ghost use Rattle.frame_packing.specs.PackingIds.{gridless as gridless_of};
 ghost use Rattle.fields.specs.Groups.{ReadsGroup, WritesGroup};
 ghost use Rattle.records.specs.Record.{Decoded};
 
@@ -34,7 +35,6 @@ impl PackingFlags {
 
     fn encode(&self, writer: &mut Writer)
         ensures after { WritesGroup flags_part (flag_numbers self.now) (sheet writer.old) (sheet writer.new) }
-        ensures lent { writer.new.bytes.ghost_name ≡ writer.old.bytes.ghost_name }
     {
         writer.flag(self.spatial_flipping);
         writer.flag(self.frame0_flipped);
@@ -45,6 +45,8 @@ impl PackingFlags {
     }
 }
 
+// Four fields of one width, as region-wise packing has them: a trait for both would be public, and promise to all what
+// two crates want.
 impl GridPositions {
     fn decode(reader: &mut Reader) -> Result<GridPositions, FieldFault>
         ensures { ReadsGroup (grid_part false) (λ g. grid_numbers (Some g)) reader.old result reader.new }
@@ -63,16 +65,22 @@ impl GridPositions {
 
     fn encode(&self, writer: &mut Writer)
         ensures after { WritesGroup (grid_part false) (grid_numbers (Some self.now)) (sheet writer.old) (sheet writer.new) }
-        ensures lent { writer.new.bytes.ghost_name ≡ writer.old.bytes.ghost_name }
     {
-        writer.bits(4, self.frame0_x as u32);
-        writer.bits(4, self.frame0_y as u32);
-        writer.bits(4, self.frame1_x as u32);
-        writer.bits(4, self.frame1_y as u32);
+        writer.bits(4, u32::from(self.frame0_x));
+        writer.bits(4, u32::from(self.frame0_y));
+        writer.bits(4, u32::from(self.frame1_x));
+        writer.bits(4, u32::from(self.frame1_y));
     }
 }
 
-// The grid positions, unless there are none.
+// Whether such an arrangement has no grid positions.
+pub(super) fn gridless(quincunx_sampling: bool, arrangement_type: u8) -> bool
+    ensures { result ≡ gridless_of quincunx_sampling arrangement_type }
+{
+    quincunx_sampling || arrangement_type == 5
+}
+
+// The grid positions, unless there are none. A trait for all optional groups would be longer than the `if`s that it would say once.
 fn decode_grid(reader: &mut Reader, gridless: bool) -> Result<Option<GridPositions>, FieldFault>
     ensures reads { ReadsGroup (grid_part gridless) grid_numbers reader.old result reader.new }
     ensures some { IfOk result (λ g. is_some g ≡ not gridless) }
@@ -86,11 +94,9 @@ fn decode_grid(reader: &mut Reader, gridless: bool) -> Result<Option<GridPositio
 
 fn encode_grid(grid: Option<GridPositions>, writer: &mut Writer)
     ensures after { WritesGroup (grid_part (not (is_some grid))) (grid_numbers grid) (sheet writer.old) (sheet writer.new) }
-    ensures lent { writer.new.bytes.ghost_name ≡ writer.old.bytes.ghost_name }
 {
-    match grid {
-        None => {}
-        Some(positions) => positions.encode(writer),
+    if let Some(positions) = grid {
+        positions.encode(writer);
     }
 }
 
@@ -99,17 +105,16 @@ fn decode_ending(mut reader: Reader) -> Result<Period, FieldFault>
     ensures { Decoded ending period_numbers (left reader.entry) result }
 {
     reader.bits(8)?;
-    let pictures = reader.ue_to(16_384)? as u16;
+    let period = Period::read(&mut reader)?;
     reader.extension()?;
-    Ok(Period { pictures })
+    Ok(period)
 }
 
 fn encode_ending(period: Period, writer: &mut Writer)
     ensures after { sheet writer.new ≡ lays ending (period_numbers period) (sheet writer.old) }
-    ensures lent { writer.new.bytes.ghost_name ≡ writer.old.bytes.ghost_name }
 {
     writer.bits(8, 0);
-    writer.ue(period.pictures as u32);
+    period.write(writer);
     writer.extension();
 }
 
@@ -122,8 +127,7 @@ impl Arrangement {
         let quincunx_sampling = reader.flag()?;
         let content_interpretation = reader.bits(6)? as u8;
         let flags = PackingFlags::decode(&mut reader)?;
-        let gridless = quincunx_sampling || arrangement_type == 5;
-        let grid = decode_grid(&mut reader, gridless)?;
+        let grid = decode_grid(&mut reader, gridless(quincunx_sampling, arrangement_type))?;
         let period = decode_ending(reader)?;
         Ok(Arrangement {
             arrangement_type,
@@ -137,11 +141,10 @@ impl Arrangement {
 
     pub(super) fn encode(&self, writer: &mut Writer)
         ensures after { sheet writer.new ≡ lays content (content_numbers self.now) (sheet writer.old) }
-        ensures lent { writer.new.bytes.ghost_name ≡ writer.old.bytes.ghost_name }
     {
-        writer.bits(7, self.arrangement_type as u32);
+        writer.bits(7, u32::from(self.arrangement_type));
         writer.flag(self.quincunx_sampling);
-        writer.bits(6, self.content_interpretation as u32);
+        writer.bits(6, u32::from(self.content_interpretation));
         self.flags.encode(writer);
         encode_grid(self.grid, writer);
         encode_ending(self.period, writer);

@@ -10,7 +10,6 @@ use crate::message::{Arrangement, FramePacking, PackingId};
 use fields::reader::Reader;
 use fields::writer::Writer;
 use layouts::fault::FieldFault;
-use records::cancelable::Cancelable;
 use records::fault::PayloadFault;
 use records::record::Record;
 
@@ -19,10 +18,7 @@ fn decode_id(reader: &mut Reader) -> Result<PackingId, FieldFault>
     ensures { ReadsId (left reader.old) result (left reader.new) }
 {
     let start = reader.place();
-    match PackingId::new(reader.ue()?) {
-        Ok(id) => Ok(id),
-        Err(_) => Err(FieldFault::OutOfRange(start)),
-    }
+    PackingId::new(reader.ue()?).map_err(|_| FieldFault::OutOfRange(start))
 }
 
 impl FramePacking {
@@ -30,13 +26,11 @@ impl FramePacking {
     pub fn cancels(&self) -> bool
         ensures { result ≡ is_cancel self.now.arrangement }
     {
-        match self.arrangement {
-            Cancelable::Cancel => true,
-            Cancelable::Set(_) => false,
-        }
+        self.arrangement.is_none()
     }
 
-    // The id in a payload, reserved or not: nothing behind it is looked at.
+    // The id in a payload, reserved or not: nothing behind it is looked at. The length is asked as of a record, since no
+    // record is read.
     pub fn id_of(payload: &[u8]) -> Result<u32, PayloadFault>
         ensures { result ≡ id_as payload.now }
     {
@@ -49,6 +43,7 @@ impl FramePacking {
     }
 }
 
+// No `Option` as the other messages: an id stands before the cancel bit, and a cancel ends with an extension bit.
 impl Record for FramePacking {
     ghost layout = { packing_layout };
 
@@ -71,24 +66,24 @@ impl Record for FramePacking {
             reader.extension()?;
             return Ok(FramePacking {
                 id,
-                arrangement: Cancelable::Cancel,
+                arrangement: None,
             });
         }
         let arrangement = Arrangement::decode(reader)?;
         Ok(FramePacking {
             id,
-            arrangement: Cancelable::Set(arrangement),
+            arrangement: Some(arrangement),
         })
     }
 
     fn encode(&self, writer: &mut Writer) {
         writer.ue(self.id.number);
         match self.arrangement {
-            Cancelable::Cancel => {
+            None => {
                 writer.flag(true);
                 writer.extension();
             }
-            Cancelable::Set(arrangement) => {
+            Some(arrangement) => {
                 writer.flag(false);
                 arrangement.encode(writer);
             }

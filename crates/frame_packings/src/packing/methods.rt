@@ -7,7 +7,6 @@ ghost use Rattle.frame_packings.specs.Tables.{message_of};
 use crate::packing::Packing;
 use frame_packing::message::FramePacking;
 use kinds::in_force::Stay;
-use records::cancelable::Cancelable;
 
 impl Packing {
     // The message that brings it into force.
@@ -16,7 +15,7 @@ impl Packing {
     {
         FramePacking {
             id: self.id,
-            arrangement: Cancelable::Set(self.arrangement),
+            arrangement: Some(self.arrangement),
         }
     }
 
@@ -24,10 +23,6 @@ impl Packing {
     pub fn stay(&self) -> Stay
         ensures { result ≡ packing_stay (content_numbers self.now.arrangement) }
     {
-        if self.arrangement.period.pictures == 0 {
-            Stay::Once
-        } else {
-            Stay::Stays
-        }
+        Stay::from(self.arrangement.period)
     }
 }

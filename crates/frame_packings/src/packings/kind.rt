@@ -1,4 +1,5 @@
 // What the packings in force promise as a kind.
+ghost use Rattle.std.specs.Prelude.{refl};
 ghost use Rattle.bounded.specs.Bounded.{items};
 ghost use Rattle.frame_packings.specs.PackingLaws.{packing_lawful};
 ghost use Rattle.frame_packings.specs.Packings.{packing_model};
@@ -12,25 +13,17 @@ use kinds::kind::Kind;
 use records::record::Record;
 
 impl Kind for FramePackings {
+    ghost TYPE = { packing_model.number };
+
     const TYPE: u32 = 45;
+
+    ghost GREATEST = { packing_model.greatest };
 
     const GREATEST: usize = 77;
 
     ghost model = { packing_model };
 
     ghost meaning = { λ s. meaning_of (items s.table) };
-
-    ghost lawful = { packing_lawful };
-
-    ghost sound = { λ s. table_sound s };
-
-    fn type_number() -> u32 {
-        Self::TYPE
-    }
-
-    fn greatest_length() -> usize {
-        Self::GREATEST
-    }
 
     fn empty() -> FramePackings {
         FramePackings::none()
@@ -60,4 +53,12 @@ impl Kind for FramePackings {
     fn payload(&self, n: usize, buffer: &mut [u8]) -> Result<usize, LookFault> {
         self.write_at(n, buffer)
     }
+
+    ghost lawful = { packing_lawful };
+
+    ghost sound = { λ s. table_sound s };
+
+    ghost typed = { refl };
+
+    ghost limited = { refl };
 }

@@ -1,7 +1,12 @@
-// Making a period.
-ghost use Rattle.records.specs.Period.{MakesPeriod};
+// Making a period, and reading and writing one.
+ghost use Rattle.std.specs.Prelude.{◌≡◌};
+ghost use Rattle.layouts.specs.Layout.{coded};
+ghost use Rattle.fields.specs.Writing.{sheet, put};
+ghost use Rattle.records.specs.Period.{period_code, MakesPeriod, ReadsPeriod};
 
 use crate::period::Period;
+use fields::reader::Reader;
+use fields::writer::Writer;
 use layouts::fault::FieldFault;
 
 impl Period {
@@ -15,5 +20,20 @@ impl Period {
         Ok(Period {
             pictures: pictures as u16,
         })
+    }
+
+    // The period that comes next, as a ue field.
+    pub fn read(reader: &mut Reader) -> Result<Period, FieldFault>
+        ensures { ReadsPeriod reader.old result reader.new }
+    {
+        let pictures = reader.ue_to(16_384)? as u16;
+        Ok(Period { pictures })
+    }
+
+    // Writes it as a ue field.
+    pub fn write(&self, writer: &mut Writer)
+        ensures { sheet writer.new ≡ put (coded period_code self.now.pictures) (sheet writer.old) }
+    {
+        writer.ue(u32::from(self.pictures));
     }
 }

@@ -38,55 +38,18 @@ impl GuardBand {
         let types = four::read(reader, 3)?;
         reader.bits(3)?;
         Ok(GuardBand {
-            widths: Sides {
-                left: widths.0 as u8,
-                right: widths.1 as u8,
-                top: widths.2 as u8,
-                bottom: widths.3 as u8,
-            },
+            widths,
             not_used,
-            types: Sides {
-                left: types.0 as u8,
-                right: types.1 as u8,
-                top: types.2 as u8,
-                bottom: types.3 as u8,
-            },
+            types,
         })
     }
 
     pub(crate) fn write(&self, writer: &mut Writer)
         ensures after { WritesGroup guard_band (band_numbers self.now) (sheet writer.old) (sheet writer.new) }
-        ensures lent { writer.new.bytes.ghost_name ≡ writer.old.bytes.ghost_name }
     {
-        let Sides {
-            left,
-            right,
-            top,
-            bottom,
-        } = self.widths;
-        four::write(
-            writer,
-            8,
-            left as u32,
-            right as u32,
-            top as u32,
-            bottom as u32,
-        );
+        four::write(writer, 8, self.widths);
         writer.flag(self.not_used);
-        let Sides {
-            left,
-            right,
-            top,
-            bottom,
-        } = self.types;
-        four::write(
-            writer,
-            3,
-            left as u32,
-            right as u32,
-            top as u32,
-            bottom as u32,
-        );
+        four::write(writer, 3, self.types);
         writer.bits(3, 0);
     }
 }

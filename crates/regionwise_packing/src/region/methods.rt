@@ -12,6 +12,7 @@ use crate::four;
 use crate::guard_band::GuardBand;
 use crate::region::Region;
 use crate::shapes::{Rectangle, Size};
+use crate::transform::Transform;
 use fields::reader::Reader;
 use fields::writer::Writer;
 use layouts::fault::FieldFault;
@@ -26,16 +27,29 @@ impl Region {
     ) -> Result<Region, FieldFault>
         ensures { MakesRegion 0 transform projected packed guard result }
     {
-        made_at(0, transform, projected, packed, guard)
+        let transform = Transform::try_from(transform)?;
+        if projected.width == 0
+            || projected.height == 0
+            || packed.width == 0
+            || packed.height == 0
+        {
+            return Err(FieldFault::OutOfRange(0));
+        }
+        Ok(Region {
+            transform,
+            projected,
+            packed,
+            guard,
+        })
     }
 
     // Whether its packed rectangle lies inside the packed picture.
     pub fn is_inside(&self, picture: Size<u16>) -> bool
         ensures { result ≡ is_inside picture self.now.packed }
     {
-        let right = self.packed.left as u32 + self.packed.width as u32;
-        let bottom = self.packed.top as u32 + self.packed.height as u32;
-        right <= picture.width as u32 && bottom <= picture.height as u32
+        let right = u32::from(self.packed.left) + u32::from(self.packed.width);
+        let bottom = u32::from(self.packed.top) + u32::from(self.packed.height);
+        right <= u32::from(picture.width) && bottom <= u32::from(picture.height)
     }
 
     // The region that comes next, whole; then it is judged, and refused at its first bit.
@@ -50,19 +64,9 @@ impl Region {
         let projected = four::read(reader, 32)?;
         let packed = four::read(reader, 16)?;
         let guard = read_guard(reader, guarded)?;
-        let wide = Rectangle {
-            width: projected.0,
-            height: projected.1,
-            top: projected.2,
-            left: projected.3,
-        };
-        let narrow = Rectangle {
-            width: packed.0 as u16,
-            height: packed.1 as u16,
-            top: packed.2 as u16,
-            left: packed.3 as u16,
-        };
-        let region = made_at(start, transform as u8, wide, narrow, guard)?;
+        let region = Region::new(transform as u8, projected, packed, guard).map_err(
+            |_| FieldFault::OutOfRange(start),
+        )?;
         if !region.is_inside(picture) {
             return Err(FieldFault::PastLimit(start));
         }
@@ -71,53 +75,17 @@ impl Region {
 
     pub(crate) fn write(&self, writer: &mut Writer)
         ensures after { (picture : SizeOf ℕ) → WritesGroup (region_fields picture) (region_numbers self.now) (sheet writer.old) (sheet writer.new) }
-        ensures lent { writer.new.bytes.ghost_name ≡ writer.old.bytes.ghost_name }
     {
         writer.bits(4, 0);
-        writer.bits(3, self.transform as u32);
+        writer.bits(3, u32::from(u8::from(self.transform)));
         writer.flag(self.guard.is_some());
-        let wide = self.projected;
-        four::write(writer, 32, wide.width, wide.height, wide.top, wide.left);
-        let narrow = self.packed;
-        four::write(
-            writer,
-            16,
-            narrow.width as u32,
-            narrow.height as u32,
-            narrow.top as u32,
-            narrow.left as u32,
-        );
+        four::write(writer, 32, self.projected);
+        four::write(writer, 16, self.packed);
         write_guard(writer, self.guard);
     }
 }
 
-// A region, refused at a place.
-fn made_at(
-    place: usize,
-    transform: u8,
-    projected: Rectangle<u32>,
-    packed: Rectangle<u16>,
-    guard: Option<GuardBand>,
-) -> Result<Region, FieldFault>
-    ensures { MakesRegion place transform projected packed guard result }
-{
-    if transform > 7
-        || projected.width == 0
-        || projected.height == 0
-        || packed.width == 0
-        || packed.height == 0
-    {
-        return Err(FieldFault::OutOfRange(place));
-    }
-    Ok(Region {
-        transform,
-        projected,
-        packed,
-        guard,
-    })
-}
-
-// A guard band, where there is one.
+// A guard band, where there is one. A trait for all optional groups would be longer than the `if`s that it would say once.
 fn read_guard(reader: &mut Reader, guarded: bool) -> Result<Option<GuardBand>, FieldFault>
     ensures reads { ReadsGroup (guard_band_if guarded) option_numbers reader.old result reader.new }
     ensures some { IfOk result (λ g. is_some g ≡ guarded) }
@@ -133,7 +101,6 @@ fn read_guard(reader: &mut Reader, guarded: bool) -> Result<Option<GuardBand>, F
 
 fn write_guard(writer: &mut Writer, guard: Option<GuardBand>)
     ensures after { WritesGroup (guard_band_if (is_some guard)) (option_numbers guard) (sheet writer.old) (sheet writer.new) }
-    ensures lent { writer.new.bytes.ghost_name ≡ writer.old.bytes.ghost_name }
 {
     if let Some(band) = guard {
         band.write(writer);

@@ -1,7 +1,5 @@
-use Rattle.std.proofs.Common.{List, length, sym, ap, ◌∙◌, arith, take_all}
+use Rattle.std.proofs.Common.{sym, arith}
 use Rattle.bounded.specs.Bounded.{items}
-use Rattle.regionwise_packing.specs.declared.region.Region.{Region}
-use Rattle.regionwise_packing.specs.Numbers.{all_inside}
 use Rattle.regionwise_packing.proofs.Loops.{gather-more, outside-one}
 use Rattle.regionwise_packing.proofs.methods.gathered.Goals as goal
 
@@ -12,10 +10,3 @@ returns-then-not-is_inside c =
 pub loop-region-preserved : goal.loop-region-preserved
 loop-region-preserved c =
     gather-more c.args.packed c.loop-region.region-index c.args.regions.now (items c.loop-region.held) (items c.push.new.self) c.region-item.result _ (omega arith) c.loop-region-test.true c.loop-region.invariant c.region-item.is (sym c.if-not-is_inside.ensures) c.push.ensures.answer c.push.ensures.items
-
-pub returns : goal.returns
-returns c =
-    let all = take_all c.loop-region.region-index c.args.regions.now c.loop-region-test.false in
-    let held = c.loop-region.invariant.0 ∙ all in
-    let inside = sym (ap (λ (l : List Region). all_inside c.args.packed l) all) ∙ c.loop-region.invariant.1 in
-    (inside, held, ap length held, ap (λ (l : List Region). all_inside c.args.packed l) held ∙ inside)

@@ -2,7 +2,7 @@
 use Rattle.std.proofs.Common.{◌+◌, ◌<◌, length, None, vec_items, IsUtf8, sym, refl, ap, ◌∙◌, subst, arith}
 use Rattle.std.proofs.lemmas.Str.{IsCharBoundary-start}
 use Rattle.script.specs.Hex.{reading}
-use Rattle.script.proofs.Reading.{named, odd-at, not-hex-at, blank_turn, first-turn, second-turn, odd-end, bytes-end}
+use Rattle.script.proofs.Reading.{named, not-hex-at, blank_turn, first-turn, second-turn}
 use Rattle.script.proofs.hex.decode.Goals as goal
 
 pub loop-i-init : goal.loop-i-init
@@ -12,13 +12,6 @@ loop-i-init c =
       tt,
       IsCharBoundary-start text (subst IsUtf8 c.as_bytes-c-items.ensures.value c.as_bytes-c-items.ensures.utf8),
     )
-
-pub returns-then-is_some : goal.returns-then-is_some
-returns-then-is_some c =
-    let white = c.if-is_ascii_whitespace.ensures.value in
-    let same = c.as_bytes-c-items.ensures.value in
-    let long = c.as_bytes-c-items.ensures.len in
-    (sym c.loop-i.invariant.0 ∙ odd-at c.args.text.now c.loop-i.i (omega arith) _ _ c.loop-i.high (cc) (sym c.if-is_some.ensures), c.loop-i.invariant.2)
 
 pub returns-in_default : goal.returns-in_default
 returns-in_default c =
@@ -50,13 +43,3 @@ loop-i-preserved c =
           named c.args.text.now (c.loop-i.i + 1) (ap vec_items w.bytes-is ∙ w.in_ok-push-in-Some-high.ensures.items) w.high-is w.word-is
           (second-turn c.args.text.now c.loop-i.i lt _ _ _ _ (named c.args.text.now c.loop-i.i refl (sym w.in-Some-high.is) refl turn) (cc) (cc))
     ]
-
-pub returns-then-is_some-2 : goal.returns-then-is_some-2
-returns-then-is_some-2 c =
-    let long = c.as_bytes-c-items.ensures.len in
-    (sym c.loop-i.invariant.0 ∙ odd-end c.args.text.now _ _ c.loop-i.i c.loop-i.high (omega arith) (sym c.if-is_some-2.ensures), c.loop-i.invariant.2)
-
-pub returns : goal.returns
-returns c =
-    let long = c.as_bytes-c-items.ensures.len in
-    sym c.loop-i.invariant.0 ∙ bytes-end c.args.text.now _ _ c.loop-i.i c.loop-i.high (omega arith) (sym c.if-is_some-2.ensures)

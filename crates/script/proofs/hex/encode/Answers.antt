@@ -1,14 +1,8 @@
 use Rattle.std.proofs.Common.{[], ◌∷◌, ◌++◌, get_or, string_bytes, sym, ap, ◌∙◌}
 use lib.Utf8.{encode}
 use Rattle.script.specs.Hex.{pair}
-use Rattle.script.proofs.Reading.{reads-back, written-first, written-more}
+use Rattle.script.proofs.Reading.{written-first, written-more}
 use Rattle.script.proofs.hex.encode.Goals as goal
-
-pub returns-in_err-push-clause-law : goal.returns-in_err-push-clause-law
-returns-in_err-push-clause-law c = reads-back
-
-pub returns-in_err-push_byte-clause-law : goal.returns-in_err-push_byte-clause-law
-returns-in_err-push_byte-clause-law c = reads-back
 
 pub loop-i-preserved : goal.loop-i-preserved
 unfolding encode
@@ -24,6 +18,3 @@ loop-i-preserved c =
       | goal.else-i-gt0 w ↦
           grown ∙ ap (λ l. l ++ byte) (ap string_bytes w.text-is ∙ c.loop-i.invariant) ∙ sym (written-first bs i w.if-i-gt0.false c.loop-i-test.true)
     ]
-
-pub returns-clause-law : goal.returns-clause-law
-returns-clause-law c = reads-back

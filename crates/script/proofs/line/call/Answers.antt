@@ -1,19 +1,17 @@
-use Rattle.std.proofs.Common.{Some, sym, refl, ap, ◌∙◌}
-use Rattle.script.specs.Lines.{call_of, clear, catch_up, show}
-use Rattle.script.proofs.Told.{told}
+use Rattle.std.proofs.Common.{◌≡◌, Some, arith}
+use Rattle.std.proofs.lemmas.Result.{err_from_is_err_and}
+use Rattle.script.specs.Lines.{named, unit, frame}
+use Rattle.script.specs.declared.line.Name.TheVariants as name
 use Rattle.script.proofs.line.call.Goals as goal
 
-pub returns-in-Clear : goal.returns-in-Clear
-returns-in-Clear c =
-    let is = sym c.in-Some.ensures ∙ ap Some c.in-Clear.is in
-    told c.end_of.result (ap (λ o. call_of o c.args.word.now c.args.rest.now) is) (c.end_of.ensures clear refl)
+pub returns-in_err-unit_of-in-Unit : goal.returns-in_err-unit_of-in-Unit
+returns-in_err-unit_of-in-Unit c =
+    let is : named c.args.word.now ≡ Some name.Unit = grind arith in
+    let p = err_from_is_err_and c.from_residual-in_err-unit_of-in-Unit.result c.from_residual-in_err-unit_of-in-Unit.ensures.1 in
+    rw (p.1, p.2, is) (c.in_err-unit_of-in-Unit.ensures unit)
 
-pub returns-in-Show : goal.returns-in-Show
-returns-in-Show c =
-    let is = sym c.in-Some.ensures ∙ ap Some c.in-Show.is in
-    told c.end_of-in-Show.result (ap (λ o. call_of o c.args.word.now c.args.rest.now) is) (c.end_of-in-Show.ensures show refl)
-
-pub returns-in-CatchUp : goal.returns-in-CatchUp
-returns-in-CatchUp c =
-    let is = sym c.in-Some.ensures ∙ ap Some c.in-CatchUp.is in
-    told c.end_of-in-CatchUp.result (ap (λ o. call_of o c.args.word.now c.args.rest.now) is) (c.end_of-in-CatchUp.ensures catch_up refl)
+pub returns-in_err-unit_of-in-Frame : goal.returns-in_err-unit_of-in-Frame
+returns-in_err-unit_of-in-Frame c =
+    let is : named c.args.word.now ≡ Some name.Frame = grind arith in
+    let p = err_from_is_err_and c.from_residual-in_err-unit_of-in-Frame.result c.from_residual-in_err-unit_of-in-Frame.ensures.1 in
+    rw (p.1, p.2, is) (c.in_err-unit_of-in-Frame.ensures frame)

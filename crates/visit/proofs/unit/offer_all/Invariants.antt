@@ -10,6 +10,6 @@ invariant-loop-message g l =
     let m0 = g.R.Kinds.meanings l.initial.kinds in
     (goal.iterator-loop-message g).can_next l.message-iterator
     × (goal.iterator-loop-message g).is_finite l.message-iterator
-    × (l.tally.counts.0 + l.tally.counts.1 + l.tally.counts.2 + length (coming l.message-iterator) ≤ length (coming l.messages))
+    × (l.tally.granted + l.tally.refused + l.tally.passed + length (coming l.message-iterator) ≤ length (coming l.messages))
     × (tallied ks (g.R.Kinds.meanings l.kinds) l.tally (coming l.message-iterator) ≡ tallied ks m0 untold (coming l.messages))
     × (offered_all ks (g.R.Kinds.meanings l.kinds) (coming l.message-iterator) ≡ offered_all ks m0 (coming l.messages))

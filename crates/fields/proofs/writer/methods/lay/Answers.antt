@@ -1,17 +1,32 @@
-use Rattle.std.proofs.Common.{◌≡◌, ℕ, ◌+◌, ◌-◌, ◌/◌, ◌%◌, ◌^◌, get_or, sym, refl, ap, ◌∙◌, arith}
-use Rattle.layouts.specs.Bits.{word}
+use Rattle.std.proofs.Common.{◌≡◌, ℕ, ◌+◌, ◌-◌, ◌*◌, ◌/◌, ◌^◌, min, max, get_or, set, sym, refl, ap, ◌∙◌, arith}
+use Rattle.layouts.specs.Bits.{word, bits_of}
 use Rattle.fields.specs.Writing.{laid}
 use Rattle.fields.proofs.Laid.{lay-more, lay-none}
 use Rattle.fields.proofs.writer.methods.lay.Goals as goal
 
-pub loop-left-preserved : goal.loop-left-preserved
-loop-left-preserved c =
-    let n = c.min-n.result in
-    let left = c.loop-left.left in
-    let place = c.loop-left.place in
-    let low : 8 - (8 - place % 8 - n + n) ≡ place % 8 = omega arith in
-    let byte = c.patched.ensures ∙ ap (λ (k : ℕ). laid k (word n (c.args.value / 2 ^ (left - n))) (word 8 (get_or c.loop-left.bytes (place / 8) 0))) low in
-    (omega arith, omega arith, lay-more c.loop-left.bytes _ place n left c.patched.result c.args.value (omega arith) (omega arith) (omega arith) (omega arith) byte refl ∙ c.loop-left.invariant.2)
+pub loop-i-init : goal.loop-i-init
+loop-i-init c =
+    let at = c.args.at in
+    let end = at + c.args.width in
+    let start : min end (max at (8 * (at / 8))) ≡ at = omega arith in
+    let all : end - at ≡ c.args.width = omega arith in
+    ap (λ p. laid p (word (end - p) c.args.value) (bits_of c.args.bytes.now)) start ∙ ap (λ w. laid at (word w c.args.value) (bits_of c.args.bytes.now)) all
+
+pub loop-i-preserved : goal.loop-i-preserved
+loop-i-preserved c =
+    let i = c.loop-i.i in
+    let bytes = c.loop-i.bytes in
+    let value = c.args.value in
+    let end = c.args.at + c.args.width in
+    let from = c.max-from.result in
+    let to = c.min-to.result in
+    let here : from ≡ min end (max c.args.at (8 * i)) = omega arith in
+    let next : min end (max c.args.at (8 * (i + 1))) ≡ to = omega arith in
+    let low : 8 - (8 * i + 8 - to + (to - from)) ≡ from - 8 * i = omega arith in
+    let byte = c.patched.ensures ∙ ap (λ (k : ℕ). laid k (word (to - from) (value / 2 ^ (end - to))) (word 8 (get_or bytes i 0))) low in
+    ap (λ p. laid p (word (end - p) value) (bits_of (set bytes i c.patched.result))) next
+    ∙ lay-more bytes _ i from to end c.patched.result value (omega arith) (omega arith) (omega arith) (omega arith) (omega arith) (omega arith) byte refl
+    ∙ ap (λ p. laid p (word (end - p) value) (bits_of bytes)) here ∙ c.loop-i.invariant
 
 pub returns : goal.returns
-returns c = sym (lay-none c.loop-left.bytes c.loop-left.place c.loop-left.left c.args.value (omega arith)) ∙ c.loop-left.invariant.2
+returns c = sym (lay-none c.loop-i.bytes _ _ c.args.value (omega arith)) ∙ c.loop-i.invariant

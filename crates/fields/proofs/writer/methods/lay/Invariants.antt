@@ -1,14 +1,8 @@
-use Rattle.std.proofs.Common.{◌≡◌, ◌+◌, ◌≤◌}
+use Rattle.std.proofs.Common.{◌≡◌, ◌-◌, ◌*◌, min, max}
 use Rattle.layouts.specs.Bits.{word, bits_of}
 use Rattle.fields.specs.Writing.{laid}
 use Rattle.fields.proofs.writer.methods.lay.Given as goal
 
--- what is left to write gives what is to be written
-abbrev pub invariant-loop-left : goal.invariant-loop-left
-invariant-loop-left l =
-    (l.place + l.left ≡ l.at + l.width)
-    × (l.left ≤ l.width)
-    × (laid l.place (word l.left l.value) (bits_of l.bytes) ≡ laid l.at (word l.width l.value) (bits_of l.initial.bytes))
-
-abbrev pub decreases-loop-left : goal.decreases-loop-left
-decreases-loop-left l = l.left
+-- what is left to write behind the place gives what is to be written
+abbrev pub invariant-loop-i : goal.invariant-loop-i
+invariant-loop-i l = let place = min l.end (max l.at (8 * l.i)) in laid place (word (l.end - place) l.value) (bits_of l.bytes) ≡ laid l.at (word l.width l.value) (bits_of l.initial.bytes)

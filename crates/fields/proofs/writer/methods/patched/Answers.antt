@@ -3,4 +3,4 @@ use Rattle.fields.proofs.Laid.{patched-is}
 use Rattle.fields.proofs.writer.methods.patched.Goals as goal
 
 pub returns : goal.returns
-returns c = patched-is c.args.byte c.args.low c.args.n c.args.value c.requires (omega arith)
+returns c = rw c.from-byte.ensures (patched-is c.args.byte c.args.low c.args.n c.args.value c.requires (omega arith))

@@ -4,6 +4,5 @@ use Rattle.frame_packing.proofs.message.Arrangement.encode.Goals as goal
 
 pub returns : goal.returns
 returns c = record {
-  after = arrangement-lays c.args.self.now _ _ _ _ _ _ _ c.bits.ensures.after c.flag.ensures.after c.bits-2.ensures.after c.encode.ensures.after c.encode_grid.ensures.after c.encode_ending.ensures.after;
-  lent = search rules;
+  after = arrangement-lays c.args.self.now _ _ _ _ _ _ _ (search rules) c.flag.ensures.after (search rules) c.encode.ensures.after c.encode_grid.ensures.after c.encode_ending.ensures.after;
 }

@@ -4,4 +4,4 @@ use Rattle.frame_packing.proofs.message.GridPositions.encode.Goals as goal
 
 pub returns : goal.returns
 unfolding grid
-returns c = record { after = search rules; lent = search rules }
+returns c = record { after = search rules }

@@ -1,15 +1,11 @@
-use Rattle.std.proofs.Common.{ap, ◌∙◌}
+use Rattle.std.proofs.Common.{rules}
 use Rattle.bounded.specs.Bounded.{items}
 use Rattle.frame_packings.specs.Packings.{outlasts}
-use Rattle.frame_packings.specs.TableLaws.{table-few, kept-rises}
-use Rattle.frame_packings.specs.Tables.{meaning_of, rises}
-use Rattle.frame_packings.proofs.Rows.{staying-table}
+use Rattle.frame_packings.specs.Tables.{packed_of}
+use Rattle.frame_packings.proofs.Rows.{staying-rises}
 use Rattle.frame_packings.proofs.packings.FramePackings.end_once.Goals as goal
 
 pub invariant_of-self : goal.invariant_of-self
 invariant_of-self c =
-    let t = c.args.self.now.table in
-    record { rising = ap rises (staying-table (items t) _ _ (table-few t) c.new.ensures c.added-self.ensures) ∙ kept-rises outlasts (meaning_of (items t)) c.args.self.now.rising }
-
-pub returns : goal.returns
-returns c = let t = c.args.self.now.table in staying-table (items t) _ _ (table-few t) c.new.ensures c.added-self.ensures
+    let s = c.args.self.now in
+    record { rising = staying-rises (items s.table) _ (c.retain.ensures.tested (λ p. outlasts (packed_of p)) (λ x b f k. search rules)) s.rising }

@@ -5,13 +5,10 @@ use Rattle.frame_packing.specs.declared.message.FramePacking.{FramePacking}
 use Rattle.frame_packing.specs.FramePacking.{layout, numbers}
 use Rattle.frame_packings.specs.Packings.{payload_of}
 use Rattle.frame_packings.specs.Tables.{packed_of}
-use Rattle.frame_packings.proofs.Parts.{length_some, length_none}
+use Rattle.frame_packings.proofs.Parts.{length_some}
 use Rattle.frame_packings.proofs.packings.FramePackings.len_at.Goals as goal
 
-pub returns-in-Some : goal.returns-in-Some
-returns-in-Some c =
+pub returns : goal.returns
+returns c =
     ap (λ (n : ℕ). Some n) (c.payload_len.ensures.value ∙ ap (λ (m : FramePacking). length (payload layout (numbers m))) c.message.ensures)
-    ∙ sym (length_some payload_of packed_of (items c.args.self.now.table) c.args.n _ (sym c.in-Some.ensures))
-
-pub returns-in-None : goal.returns-in-None
-returns-in-None c = sym (length_none payload_of packed_of (items c.args.self.now.table) c.args.n (sym c.in-None.ensures))
+    ∙ sym (length_some payload_of packed_of (items c.args.self.now.table) c.args.n _ (sym c.get.ensures ∙ c.in_ok-packing.was))

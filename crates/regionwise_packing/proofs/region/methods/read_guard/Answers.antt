@@ -5,12 +5,7 @@ use Rattle.fields.specs.Reading.{left}
 use Rattle.regionwise_packing.specs.Regions.{guard_band_if}
 use Rattle.regionwise_packing.proofs.region.methods.read_guard.Goals as goal
 
-pub returns-in_err-band : goal.returns-in_err-band
-returns-in_err-band c =
+pub returns-in_err-band-clause-reads : goal.returns-in_err-band-clause-reads
+returns-in_err-band-clause-reads c =
     let p = err_from_is_err_and c.from_residual.result c.from_residual.ensures.1 in
-    rw (p.1, p.2)
-    (record {
-      reads = λ l. ap (λ (b : Bool). reads (guard_band_if b l) (left c.args.reader.now)) c.if-guarded.true ∙ c.in_err-band.ensures.reads l;
-      some = tt;
-      goes = tt;
-    })
+    rw (p.1, p.2) (λ l. ap (λ (b : Bool). reads (guard_band_if b l) (left c.args.reader.now)) c.if-guarded.true ∙ c.in_err-band.ensures.reads l)

@@ -1,6 +1,0 @@
-use Rattle.std.proofs.Common.{◌≡◌, take}
-use Rattle.layouts.specs.Bits.{number, bits_of}
-use Rattle.fields.proofs.reader.methods.window.Given as goal
-
-abbrev pub invariant-loop-b : goal.invariant-loop-b
-invariant-loop-b l = l.joined ≡ number (bits_of (take l.b-index l.b-items))
