@@ -3,7 +3,7 @@ use crate::fault::{MessageFault, Refusal};
 use kinds::fault::Offered;
 
 // What became of a unit's messages: how many were granted, refused and passed, and the first refusal.
-#[derive(Clone, Copy)]
+#[derive(Clone, Copy, Default)]
 pub struct Tally {
     pub granted: usize,
     pub refused: usize,
@@ -11,7 +11,8 @@ pub struct Tally {
     pub refusal: Option<MessageFault>,
 }
 
-// How many bytes a catch-up has, and of how many messages it is.
+// How many bytes a catch-up has, and of how many messages it is. No `Size` of `sets`, which is a sum that grows, and counts
+// the bytes without the unit's last one.
 #[derive(Clone, Copy)]
 pub struct Saved {
     pub len: usize,

@@ -8,6 +8,9 @@ use layouts::fault::{Fault, Layer, Told};
 use std::fmt;
 use units::fault::UnitFault;
 
+// Why a call is refused. `Missing` and `ShortBuffer` say what the two cases of `LookFault` say, and no case holds one of
+// them: a catch-up is refused for a short buffer too, and would then be told as a look, and no caller of a visit sees a
+// look's fault.
 #[derive(Clone, Copy, PartialEq, Eq, Debug)]
 pub enum Refusal {
     // no picture has begun
@@ -68,8 +71,8 @@ impl Fault for Refusal {
             Refusal::NoPicture => 1,
             Refusal::Unit(unit) => unit.number(),
             Refusal::Offer(offer) => offer.number(),
-            Refusal::Missing => 12,
-            Refusal::ShortBuffer => 13,
+            Refusal::Missing => LookFault::Missing.number(),
+            Refusal::ShortBuffer => LookFault::ShortBuffer.number(),
         }
     }
 

@@ -1,26 +1,23 @@
 -- Places of which the first ones hold a value each: how many, which, one more, and that the values tell the places.
-use Rattle.std.proofs.Common.{◌≡◌, ℕ, zero, suc, ◌+◌, ◌<◌, ◌≤◌, Bool, true, false, cond, ltb, List, [], ◌∷◌, ◌++◌, length, get_or, drop, set, replicate, Some, None, Option, sym, refl, ap, ◌∙◌, add-one, arith, length-set, length-drop}
-use mathlib.Core.Bool.{Bool-set}
+use Rattle.std.proofs.Common.{◌≡◌, ℕ, zero, suc, ◌+◌, ◌<◌, ◌≤◌, Bool, true, cond, ltb, List, [], ◌∷◌, ◌++◌, length, get_or, drop, set, replicate, Some, None, Option, sym, refl, ap, ◌∙◌, add-one, arith, length-set, length-drop}
+use mathlib.Core.Bool.{Bool-set, false≢true}
 use mathlib.Core.HLevel.{is_prop→PathP}
 use native.Mathlib.Nat.{ℕ_set}
 use lib.ListN.{length-replicate}
 use Rattle.std.proofs.Math.Seq.{drop-nil}
 use Rattle.std.proofs.lemmas.Bool.{lt-ltb}
 use Rattle.std.proofs.lemmas.List.{get_or_default, get_or_past}
+use Rattle.std.proofs.lemmas.Option.{slice_get_within}
 use Rattle.std.specs.List.{slice_get}
-use Rattle.layouts.specs.Bits.{bit}
 use Rattle.bounded.specs.declared.Bounded.{Bounded}
 use Rattle.bounded.specs.Bounded.{items}
 use Rattle.bounded.specs.Places.{held, fills}
-
-false-true : {A : Type 0} → false ≡ true → A
-false-true e = absurd (omega (arith, ap bit e))
 
 none-held : {A : Type 0} (ps : List (Option A)) → fills 0 ps ≡ true → held ps ≡ []
 unfolding held fills
 none-held [] f = refl
 none-held (None ∷ ps) f = none-held ps f
-none-held (Some x ∷ ps) f = false-true f
+none-held (Some x ∷ ps) f = absurd (false≢true f)
 
 pub held_none : (A : Type 0) (n : ℕ) → held (replicate {A = Option A} n None) ≡ []
 unfolding held
@@ -35,8 +32,8 @@ fills-none A (suc n) = fills-none A n
 pub length-held : {A : Type 0} (n : ℕ) (ps : List (Option A)) → fills n ps ≡ true → length (held ps) ≡ n
 unfolding held fills
 length-held zero ps f = ap length (none-held ps f)
-length-held (suc n) [] f = false-true f
-length-held (suc n) (None ∷ ps) f = false-true f
+length-held (suc n) [] f = absurd (false≢true f)
+length-held (suc n) (None ∷ ps) f = absurd (false≢true f)
 length-held (suc n) (Some x ∷ ps) f = ap suc (length-held n ps f)
 
 -- what stands at a place
@@ -45,8 +42,8 @@ unfolding held fills
 held_at n [] i f = refl
 held_at zero (None ∷ ps) zero f = sym (ap (λ l. slice_get l 0) (none-held ps f))
 held_at zero (None ∷ ps) (suc i) f = held_at zero ps i f ∙ ap (λ l. slice_get l i) (none-held ps f) ∙ sym (ap (λ l. slice_get l (suc i)) (none-held ps f))
-held_at zero (Some x ∷ ps) i f = false-true f
-held_at (suc n) (None ∷ ps) i f = false-true f
+held_at zero (Some x ∷ ps) i f = absurd (false≢true f)
+held_at (suc n) (None ∷ ps) i f = absurd (false≢true f)
 held_at (suc n) (Some x ∷ ps) zero f = refl
 held_at (suc n) (Some x ∷ ps) (suc i) f = held_at n ps i f
 
@@ -55,16 +52,16 @@ pub held-push : {A : Type 0} (n : ℕ) (ps : List (Option A)) (x : A) → fills 
 unfolding held fills
 held-push n [] x f h = absurd (omega arith)
 held-push zero (None ∷ ps) x f h = ap (λ l. x ∷ l) (none-held ps f) ∙ ap (λ l. l ++ x ∷ []) (sym (none-held ps f))
-held-push zero (Some y ∷ ps) x f h = false-true f
-held-push (suc n) (None ∷ ps) x f h = false-true f
+held-push zero (Some y ∷ ps) x f h = absurd (false≢true f)
+held-push (suc n) (None ∷ ps) x f h = absurd (false≢true f)
 held-push (suc n) (Some y ∷ ps) x f h = ap (λ l. y ∷ l) (held-push n ps x f (omega arith))
 
 pub fills-push : {A : Type 0} (n : ℕ) (ps : List (Option A)) (x : A) → fills n ps ≡ true → n < length ps → fills (suc n) (set ps n (Some x)) ≡ true
 unfolding fills
 fills-push n [] x f h = absurd (omega arith)
 fills-push zero (None ∷ ps) x f h = f
-fills-push zero (Some y ∷ ps) x f h = false-true f
-fills-push (suc n) (None ∷ ps) x f h = false-true f
+fills-push zero (Some y ∷ ps) x f h = absurd (false≢true f)
+fills-push (suc n) (None ∷ ps) x f h = absurd (false≢true f)
 fills-push (suc n) (Some y ∷ ps) x f h = fills-push n ps x f (omega arith)
 
 -- as many places with the same values are the same places
@@ -74,16 +71,16 @@ held_same n m [] [] f g l e = refl
 held_same n m [] (q ∷ qs) f g l e = absurd (omega arith)
 held_same n m (p ∷ ps) [] f g l e = absurd (omega arith)
 held_same zero zero (None ∷ ps) (None ∷ qs) f g l e = ap (λ x. None ∷ x) (held_same zero zero ps qs f g (omega arith) e)
-held_same zero zero (None ∷ ps) (Some y ∷ qs) f g l e = false-true g
-held_same zero zero (Some x ∷ ps) (q ∷ qs) f g l e = false-true f
-held_same zero (suc m) (None ∷ ps) (None ∷ qs) f g l e = false-true g
+held_same zero zero (None ∷ ps) (Some y ∷ qs) f g l e = absurd (false≢true g)
+held_same zero zero (Some x ∷ ps) (q ∷ qs) f g l e = absurd (false≢true f)
+held_same zero (suc m) (None ∷ ps) (None ∷ qs) f g l e = absurd (false≢true g)
 held_same zero (suc m) (None ∷ ps) (Some y ∷ qs) f g l e = absurd (omega (arith, ap length (sym (none-held ps f) ∙ e)))
-held_same zero (suc m) (Some x ∷ ps) (q ∷ qs) f g l e = false-true f
-held_same (suc n) zero (None ∷ ps) (q ∷ qs) f g l e = false-true f
+held_same zero (suc m) (Some x ∷ ps) (q ∷ qs) f g l e = absurd (false≢true f)
+held_same (suc n) zero (None ∷ ps) (q ∷ qs) f g l e = absurd (false≢true f)
 held_same (suc n) zero (Some x ∷ ps) (None ∷ qs) f g l e = absurd (omega (arith, ap length (e ∙ none-held qs g)))
-held_same (suc n) zero (Some x ∷ ps) (Some y ∷ qs) f g l e = false-true g
-held_same (suc n) (suc m) (None ∷ ps) (q ∷ qs) f g l e = false-true f
-held_same (suc n) (suc m) (Some x ∷ ps) (None ∷ qs) f g l e = false-true g
+held_same (suc n) zero (Some x ∷ ps) (Some y ∷ qs) f g l e = absurd (false≢true g)
+held_same (suc n) (suc m) (None ∷ ps) (q ∷ qs) f g l e = absurd (false≢true f)
+held_same (suc n) (suc m) (Some x ∷ ps) (None ∷ qs) f g l e = absurd (false≢true g)
 held_same (suc n) (suc m) (Some x ∷ ps) (Some y ∷ qs) f g l e =
     let h : x ≡ y = cc in
     let t : held ps ≡ held qs = cc in
@@ -124,11 +121,6 @@ drop_nth (y ∷ ys) (suc i) x e = drop_nth ys i x e
 
 -- ---- going through a list by places
 
-pub here-within : {A : Type 0} (xs : List A) (i : ℕ) (x : A) → Some x ≡ slice_get xs i → i < length xs
-here-within [] i x e = let z : ◌≡◌ {A = ℕ} 0 1 = cc in absurd (omega arith)
-here-within (y ∷ ys) zero x e = omega arith
-here-within (y ∷ ys) (suc i) x e = omega (arith, here-within ys i x e)
-
 pub drop-here : {A : Type 0} (xs : List A) (i : ℕ) (x : A) → Some x ≡ slice_get xs i → drop i xs ≡ x ∷ drop (i + 1) xs
 drop-here xs i x e = drop_nth xs i x (sym e) ∙ ap (λ n. x ∷ drop n xs) (sym (add-one i))
 
@@ -138,7 +130,7 @@ drop-past (y ∷ ys) zero e = let z : ◌≡◌ {A = ℕ} 0 1 = cc in absurd (om
 drop-past (y ∷ ys) (suc i) e = drop-past ys i e
 
 -- the next value, or the end
-pub ruleset coming_next = (drop-here, here-within, drop-past, held-short, length-drop)
+pub ruleset coming_next = (drop-here, slice_get_within, drop-past, held-short, length-drop)
 
 -- ---- what the methods say
 

@@ -1,45 +1,28 @@
--- A list of which a closure keeps some, while its places are gone through.
-use Rattle.std.proofs.Common.{◌≡◌, ℕ, suc, ◌+◌, ◌<◌, ◌≤◌, Bool, true, false, List, [], ◌∷◌, ◌++◌, length, get_or, drop, Some, None, Option, sym, refl, ap, ◌∙◌, subst, append_assoc, append-nil, drop_of_length-le}
-use Rattle.std.proofs.lemmas.List.{at_drop_more}
+-- A list of which a closure keeps some, value by value.
+use Rattle.std.proofs.Common.{◌≡◌, suc, Bool, true, false, List, [], ◌∷◌, ◌++◌, map, Bor, sym, refl, ap, ◌∙◌, subst, append_assoc, append-nil}
+use Rattle.std.proofs.lemmas.List.{map-append}
 use Rattle.std.specs.List.Retain.{IsFiltered}
-use Rattle.bounded.specs.Places.{held}
 
--- ---- the places that are left
+module _ {X F : Type 0} (R : F → X → Bool → F → Type 0) (start : F) where
+  -- what the closure keeps of the values to come, behind what it kept so far, is what it keeps of all
+  abbrev pub Keeps : List X → F → List X → Type 0
+  Keeps done f kept = (rest zs : List X) → IsFiltered R f rest zs → IsFiltered R start (done ++ rest) (kept ++ zs)
 
-module _ {A : Type 0} (ps : List (Option A)) (i : ℕ) (p : Option A) (h : i < length ps) where
-  pub held-some : (x : A) → get_or ps i p ≡ Some x → held (drop i ps) ≡ x ∷ held (drop (i + 1) ps)
-  unfolding held
-  held-some x f = at_drop_more held ps i p h ∙ ap (λ q. held (q ∷ drop (i + 1) ps)) f
+  module _ (done : List (Bor X)) (f : F) (kept : List X) (k : Keeps (map (λ y. y.now) done) f kept) (x : Bor X) (g : F) where
+    -- a value more
+    later : (rest zs : List X) → IsFiltered R start (map (λ y. y.now) done ++ x.now ∷ rest) zs → IsFiltered R start (map (λ y. y.now) (done ++ x ∷ []) ++ rest) zs
+    later rest zs =
+        subst (λ l. IsFiltered R start l zs) (sym (ap (λ l. l ++ rest) (map-append (λ y. y.now) done (x ∷ [])) ∙ append_assoc (map (λ y. y.now) done) (x.now ∷ []) rest))
 
-  pub held-free : get_or ps i p ≡ None → held (drop i ps) ≡ held (drop (i + 1) ps)
-  unfolding held
-  held-free f = at_drop_more held ps i p h ∙ ap (λ q. held (q ∷ drop (i + 1) ps)) f
+    pub kept-more : (more : List X) → R f x.now true g → more ≡ kept ++ x.now ∷ [] → Keeps (map (λ y. y.now) (done ++ x ∷ [])) g more
+    kept-more more r m rest zs h =
+        later rest (more ++ zs)
+        (subst (IsFiltered R start (map (λ y. y.now) done ++ x.now ∷ rest)) (sym (ap (λ l. l ++ zs) m ∙ append_assoc kept (x.now ∷ []) zs))
+        (k (x.now ∷ rest) (x.now ∷ zs) (true ∷ h.0, h.1, ap suc h.2, (g, r, h.3), ap (λ l. x.now ∷ l) h.4)))
 
-pub held-end : {A : Type 0} (ps : List (Option A)) (i : ℕ) → length ps ≤ i → held (drop i ps) ≡ []
-unfolding held
-held-end ps i h = ap held (drop_of_length-le ps h)
+    pub kept-not : R f x.now false g → Keeps (map (λ y. y.now) (done ++ x ∷ [])) g kept
+    kept-not r rest zs h = later rest (kept ++ zs) (k (x.now ∷ rest) zs (false ∷ h.0, h.1, ap suc h.2, (g, r, h.3), h.4))
 
--- ---- what is kept so far
-
-module _ {X F : Type 0} (R : F → X → Bool → F → Type 0) (start : F) (all : List X) where
-  -- what the closure keeps of the rest, behind what it kept, is what it keeps of all
-  abbrev pub Keeps : F → List X → List X → Type 0
-  Keeps f rest kept = (zs : List X) → IsFiltered R f rest zs → IsFiltered R start all (kept ++ zs)
-
-  pub kept-none : (kept : List X) → kept ≡ [] → Keeps start all kept
-  kept-none kept e zs h = subst (λ l. IsFiltered R start all (l ++ zs)) (sym e) h
-
-  module _ (f : F) (rest kept : List X) (k : Keeps f rest kept) where
-    pub kept-more : (g : F) (x : X) (later more : List X) → rest ≡ x ∷ later → R f x true g → more ≡ kept ++ x ∷ [] → Keeps g later more
-    kept-more g x later more e r m zs h =
-        subst (IsFiltered R start all) (sym (append_assoc kept (x ∷ []) zs) ∙ ap (λ l. l ++ zs) (sym m))
-        (k (x ∷ zs) (subst (λ l. IsFiltered R f l (x ∷ zs)) (sym e) (true ∷ h.0, h.1, ap suc h.2, (g, r, h.3), ap (λ l. x ∷ l) h.4)))
-
-    pub kept-not : (g : F) (x : X) (later : List X) → rest ≡ x ∷ later → R f x false g → Keeps g later kept
-    kept-not g x later e r zs h = k zs (subst (λ l. IsFiltered R f l zs) (sym e) (false ∷ h.0, h.1, ap suc h.2, (g, r, h.3), h.4))
-
-    pub kept-on : (later : List X) → rest ≡ later → Keeps f later kept
-    kept-on later e zs h = k zs (subst (λ l. IsFiltered R f l zs) (sym e) h)
-
-    pub kept-all : rest ≡ [] → IsFiltered R start all kept
-    kept-all e = subst (IsFiltered R start all) (append-nil kept) (k [] (subst (λ l. IsFiltered R f l []) (sym e) ([], f, refl, refl, refl)))
+  pub kept-all : (done : List X) (f : F) (kept : List X) → Keeps done f kept → IsFiltered R start done kept
+  kept-all done f kept k =
+      subst (λ l. IsFiltered R start l kept) (append-nil done) (subst (IsFiltered R start (done ++ [])) (append-nil kept) (k [] [] ([], f, refl, refl, refl)))

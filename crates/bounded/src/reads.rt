@@ -20,6 +20,6 @@ impl<T: Copy, const N: usize> Bounded<T, N> {
     pub fn get(&self, index: usize) -> Option<T>
         ensures { result ≡ slice_get (items self.now) index }
     {
-        if index < N { self.places[index] } else { None }
+        self.places.get(index).copied().flatten()
     }
 }

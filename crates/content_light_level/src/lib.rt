@@ -15,23 +15,32 @@ pub struct ContentLightLevel {
     pub greatest: u16,
     // of a picture's average, at most
     pub greatest_average: u16,
+    // the types say it; a specification, where all numbers are ℕ, does not see that
     ghost fits: { (greatest < 2 ^ 16) × (greatest_average < 2 ^ 16) },
 }
 
-// A light level in words: 0 tells no limit.
-fn limit<W: fmt::Write>(f: &mut fmt::Formatter<W>, level: u16) -> fmt::Result {
-    if level == 0 {
-        write!(f, "no limit told")
-    } else {
-        write!(f, "at most {level} cd/m2")
+// A light level, told as a limit: 0 tells none.
+#[derive(Clone, Copy)]
+struct Limit(u16);
+
+impl fmt::Display for Limit {
+    fn fmt<W: fmt::Write>(&self, f: &mut fmt::Formatter<W>) -> fmt::Result {
+        let level = self.0;
+        if level == 0 {
+            write!(f, "no limit told")
+        } else {
+            write!(f, "at most {level} cd/m2")
+        }
     }
 }
 
 impl fmt::Display for ContentLightLevel {
     fn fmt<W: fmt::Write>(&self, f: &mut fmt::Formatter<W>) -> fmt::Result {
-        write!(f, "content light level: brightest sample ")?;
-        limit(f, self.greatest)?;
-        write!(f, ", brightest picture average ")?;
-        limit(f, self.greatest_average)
+        let sample = Limit(self.greatest);
+        let average = Limit(self.greatest_average);
+        write!(
+            f,
+            "content light level: brightest sample {sample}, brightest picture average {average}"
+        )
     }
 }

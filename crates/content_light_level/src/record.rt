@@ -35,8 +35,8 @@ impl Record for ContentLightLevel {
     }
 
     fn encode(&self, writer: &mut Writer) {
-        writer.bits(16, self.greatest as u32);
-        writer.bits(16, self.greatest_average as u32);
+        writer.bits(16, u32::from(self.greatest));
+        writer.bits(16, u32::from(self.greatest_average));
         writer.close();
     }
 }

@@ -15,7 +15,7 @@ pub struct Cubemap {
 
 impl fmt::Display for Cubemap {
     fn fmt<W: fmt::Write>(&self, f: &mut fmt::Formatter<W>) -> fmt::Result {
-        let persistence = self.persistence as u8;
+        let persistence = u8::from(self.persistence);
         write!(
             f,
             "cubemap projection: the six faces of a cube, persistence {persistence}"

@@ -17,6 +17,7 @@ pub struct DisplayOrientation {
     // anticlockwise, in steps of 360 / 65,536 degrees
     pub rotation: u16,
     pub period: Period,
+    // the type says it; a specification, where all numbers are ℕ, does not see that
     ghost fits: { rotation < 2 ^ 16 },
 }
 

@@ -18,6 +18,7 @@ pub struct GuardBand {
     // in luma samples
     pub left_width: u8,
     pub right_width: u8,
+    // of the widths the types say it; a specification, where all numbers are ℕ, does not see that
     ghost fits: { (guard_type < 2 ^ 3) × ((left_width < 2 ^ 8) × (right_width < 2 ^ 8)) },
 }
 

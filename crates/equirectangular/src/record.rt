@@ -32,43 +32,36 @@ impl Body for Equirectangular {
         let persistence = reader.flag()?;
         let guarded = reader.flag()?;
         reader.bits(2)?;
-        // as in the other messages: a trait for all optional groups would be longer than this
-        if !guarded {
-            reader.close()?;
-            return Ok(Equirectangular {
-                persistence,
-                guard_band: None,
-            });
-        }
-        let guard_type = reader.bits(3)? as u8;
-        let left_width = reader.bits(8)? as u8;
-        let right_width = reader.bits(8)? as u8;
-        reader.close()?;
-        let band = GuardBand {
-            guard_type,
-            left_width,
-            right_width,
+        // a trait for all optional groups would be longer than the `if`s that it would say once, here and in `encode`;
+        // `guarded.then(|| ..).transpose()?` was tried where a region's guard band is read: `then` does not say that the reader stays where it is when the closure is not called
+        let guard_band = if guarded {
+            let guard_type = reader.bits(3)? as u8;
+            let left_width = reader.bits(8)? as u8;
+            let right_width = reader.bits(8)? as u8;
+            Some(GuardBand {
+                guard_type,
+                left_width,
+                right_width,
+            })
+        } else {
+            None
         };
+        reader.close()?;
         Ok(Equirectangular {
             persistence,
-            guard_band: Some(band),
+            guard_band,
         })
     }
 
     fn encode(&self, writer: &mut Writer) {
         writer.flag(self.persistence);
-        match self.guard_band {
-            None => {
-                writer.flag(false);
-                writer.bits(2, 0);
-            }
-            Some(band) => {
-                writer.flag(true);
-                writer.bits(2, 0);
-                writer.bits(3, u32::from(band.guard_type));
-                writer.bits(8, u32::from(band.left_width));
-                writer.bits(8, u32::from(band.right_width));
-            }
+        writer.flag(self.guard_band.is_some());
+        writer.bits(2, 0);
+        // an optional group, for which a trait would be longer, as in `decode`
+        if let Some(band) = self.guard_band {
+            writer.bits(3, u32::from(band.guard_type));
+            writer.bits(8, u32::from(band.left_width));
+            writer.bits(8, u32::from(band.right_width));
         }
         writer.close();
     }

@@ -119,3 +119,6 @@ lay-more bs ds i from to end b v inside lower some upper few room e f =
 pub lay-none : (bs : List ℕ) (place left v : ℕ) → left ≤ 0 → laid place (word left v) (bits_of bs) ≡ bits_of bs
 unfolding word
 lay-none bs place left v h = let e : left ≡ 0 = omega arith in ap (λ w. laid place (word w v) (bits_of bs)) e ∙ laid_none place (bits_of bs)
+
+-- bits in place of others, in a byte and a byte at a time
+pub ruleset laying = (patched-is, lay-more, lay-none)

@@ -1,7 +1,7 @@
 -- What a writer's methods come to: one part written where it fits, and one part after the other.
-use Rattle.std.proofs.Common.{◌≡◌, ℕ, suc, ◌+◌, ◌-◌, ◌*◌, ◌/◌, ◌%◌, ◌^◌, ◌<◌, ◌≤◌, min, Bool, true, false, cond, leb, List, [], ◌++◌, length, replicate, sym, refl, ap, ◌∙◌, add-one, arith}
+use Rattle.std.proofs.Common.{◌≡◌, ℕ, suc, ◌+◌, ◌-◌, ◌*◌, ◌/◌, ◌%◌, ◌^◌, ◌<◌, ◌≤◌, min, Bool, true, false, cond, leb, List, [], ◌++◌, length, replicate, sym, refl, ap, ◌∙◌, subst, pow-suc, add-one, arith}
 use native.Mathlib.Nat.{div-eq_of_lt}
-use lib.Count.{count_leading_zeros}
+use lib.Count.{count_leading_zeros, leading_unique}
 use Rattle.std.proofs.lemmas.Nat.{one_shl}
 use Rattle.std.proofs.lemmas.Bool.{le-leb, lt-leb, lt-ltb, le-ltb}
 use Rattle.layouts.specs.Bits.{word, number, bits_of}
@@ -50,6 +50,9 @@ word-past bytes at w v loan less =
     let n : length (word w v) ≡ w = length-word w v in
     (λ i. record { place = min (at + sym n i) (2 ^ 64 - 1); bits = bits_of bytes; loan = loan }) ∙ sym (put-past (word w v) (record { place = at; bits = bits_of bytes; loan = loan }) (omega (arith, length-bits bytes)))
 
+-- a part that fits, and one that does not
+pub ruleset wording = (word_fits, word-past)
+
 -- ---- a number of any width
 
 pub coded-narrow : (w v : ℕ) → w ≤ 32 → coded (fixed w) v ≡ word w v
@@ -60,9 +63,9 @@ coded-wide w v h = rw (lt-leb w 32 h)
 
 -- ---- a ue
 
-pub ue-is : (v : ℕ) → v + 1 < 2 ^ 32 → coded ue v ≡ word (2 * (31 - count_leading_zeros 32 (v + 1)) + 1) (v + 1)
+ue-top : (v : ℕ) → v + 1 < 2 ^ 32 → coded ue v ≡ word (2 * (31 - count_leading_zeros 32 (v + 1)) + 1) (v + 1)
 unfolding coded_ue
-ue-is v h =
+ue-top v h =
     let n = 31 - count_leading_zeros 32 (v + 1) in
     let t = top_of v h in
     let e : n + suc n ≡ 2 * n + 1 = omega arith in
@@ -71,18 +74,30 @@ ue-is v h =
     ∙ ap (λ w. replicate n false ++ word w (v + 1)) (add-one n)
     ∙ sym (ap (λ w. word w (v + 1)) (sym e) ∙ word_split n (suc n) (v + 1) ∙ ap (λ x. word n x ++ word (suc n) (v + 1)) z ∙ ap (λ l. l ++ word (suc n) (v + 1)) (word-zero n))
 
+pub ue-is : (v n : ℕ) → v + 1 < 2 ^ 32 → n < 32 → 2 ^ n ≤ v + 1 → v + 1 < 2 * 2 ^ n → coded ue v ≡ word (2 * n + 1) (v + 1)
+ue-is v n h k l u =
+    let p = pow-suc 2 n in
+    let c = leading_unique 32 (v + 1) (31 - n) (suc n) (omega arith) (omega (arith, p)) (omega (arith, p)) in
+    let e : 31 - count_leading_zeros 32 (v + 1) ≡ n = omega (arith, c) in
+    subst (λ m. coded ue v ≡ word (2 * m + 1) (v + 1)) e (ue-top v h)
+
 pub ue-none : (v : ℕ) → 2 ^ 32 ≤ v + 1 → coded ue v ≡ word 0 (v + 1)
 unfolding coded_ue word
 ue-none v h = rw (le-ltb (v + 1) (2 ^ 32) h)
 
 -- ---- how a payload is closed
 
-pub close-word : (p : ℕ) → word ((8 - p % 8) % 8) ((1 * 2 ^ ((8 - p % 8) % 8)) % 2 ^ 64 / 2 ^ 1) ≡ closing p
-close-word p =
-    let spare = (8 - p % 8) % 8 in
-    let ci = closing-is p in
-    let same : number (closing p) ≡ (1 * 2 ^ spare) % 2 ^ 64 / 2 ^ 1 = ci.1 ∙ ap (λ x. x / 2) (sym (one_shl spare 64 (omega arith))) in
-    ap (word spare) (sym same) ∙ word_of (closing p) spare ci.0
+pub close_width : (p : ℕ) → (8 - p % 8) % 8 ≡ length (closing p)
+close_width p = sym (closing-is p).0
 
--- what the widths of a number, of a ue and of a close come to
-pub ruleset widths = (coded-narrow, coded-wide, ue-is, ue-none, close-word)
+pub close_value : (p : ℕ) → (1 * 2 ^ ((8 - p % 8) % 8)) % 2 ^ 32 / 2 ≡ number (closing p)
+close_value p = ap (λ x. x / 2) (one_shl ((8 - p % 8) % 8) 32 (omega arith)) ∙ sym (closing-is p).1
+
+pub close_word : (p : ℕ) → word (length (closing p)) (number (closing p)) ≡ closing p
+close_word p = word_of (closing p) _ refl
+
+-- what the bits of a close come to
+pub ruleset closings = (close_width, close_value, close_word)
+
+-- what the widths of a number and of a ue come to
+pub ruleset widths = (coded-narrow, coded-wide, ue-is, ue-none)

@@ -3,5 +3,3 @@ pub mod Lengths
 pub mod PackingIds
 pub mod Propers
 pub mod Messages
-pub mod Same
-pub mod Walks

@@ -6,16 +6,13 @@ use Rattle.layouts.specs.Bits.{bit}
 use Rattle.layouts.specs.Layout.{fine, out_of_range, Layout, Inside, Holds}
 use Rattle.fields.proofs.Groups.{bit_is}
 use Rattle.layouts.proofs.Steps.{at-most}
+use Rattle.records.proofs.Same.{bit_below}
 use Rattle.frame_packing.specs.declared.message.Arrangement.{Arrangement}
 use Rattle.frame_packing.specs.declared.message.GridPositions.{GridPositions}
 use Rattle.frame_packing.specs.declared.message.PackingFlags.{PackingFlags}
 use Rattle.frame_packing.specs.declared.message.PackingId.{PackingId}
 use Rattle.frame_packing.specs.FramePacking.{flags, grid, ending, content, flag_numbers, grid_numbers, period_numbers, content_numbers, arrangement_numbers, identity, layout}
 use Rattle.frame_packing.specs.PackingIds.{reserved_id, gridless}
-
-bit_below : (b : Bool) → bit b < 2
-bit_below true = omega arith
-bit_below false = omega arith
 
 flags-hold : (f : PackingFlags) (more : Layout) (vs : List ℕ) → Holds more vs → Holds (flags more) (flag_numbers f ++ vs)
 unfolding flags

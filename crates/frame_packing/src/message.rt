@@ -20,7 +20,7 @@ pub struct PackingId {
 pub struct PackingFlags {
     // one of the two frames is flipped from how it was
     pub spatial_flipping: bool,
-    // frame 0 is the flipped one
+    // frame 0 is the flipped one; no `Option` with the flag before it, since the bit is kept as it is where none is flipped
     pub frame0_flipped: bool,
     // the fields of the picture belong to different eyes
     pub field_views: bool,

@@ -4,14 +4,13 @@ use Rattle.std.proofs.Common.{sym, ap, subst, ◌∙◌, append-nil, append_asso
 use Rattle.std.specs.List.{AllByRecursion}
 use Rattle.std.proofs.ByRecursion.{All-append, all_kept_by, All-weaker, kept_by_passes}
 use Rattle.std.proofs.lemmas.List.Filters.{length-filter_both}
-use Rattle.std.proofs.lemmas.Bool.{lt-ltb, le-ltb, ltb-true, le-leb, lt-leb, leb-false}
+use Rattle.std.proofs.lemmas.Bool.{lt-ltb, le-ltb, ltb-true, lt-leb, leb-false}
 use Rattle.layouts.specs.declared.fault.FieldFault.{FieldFault}
 use Rattle.layouts.specs.Frames.{framed, frames, under}
 use Rattle.layouts.specs.Layout.{Left, and_then, judged, fine, out_of_range, next, ue, coded, Layout, extension, flag, reads, extent, Holds, from}
-use Rattle.layouts.specs.Payloads.{size, payload}
 use Rattle.layouts.proofs.Extents.{length-ue}
 use Rattle.layouts.proofs.Framed.{length-framed}
-use Rattle.layouts.proofs.Layouts.{lawful, length-payload}
+use Rattle.layouts.proofs.Layouts.{length-payload}
 use Rattle.layouts.proofs.Numbers.{length-word}
 use Rattle.records.specs.declared.fault.PayloadFault.{PayloadFault}
 use Rattle.records.specs.declared.fault.PayloadFault.TheVariants.{TooLong}
@@ -24,28 +23,8 @@ use Rattle.kinds.specs.declared.fault.OfferFault.{OfferFault}
 use Rattle.kinds.specs.declared.fault.OfferFault.TheVariants.{Full}
 use Rattle.kinds.specs.Outcome.{granted, passed, refused}
 use Rattle.kinds.specs.Model.{Lawful, Replay}
+use Rattle.kinds.specs.Rulings.{ok-err, reads-holds, reads-payload}
 use Rattle.frame_packings.specs.Packings.{Packed, packed, Rising, Proper, Sound, outlasts, lower, higher, joined, full, does, says, begins, payload_of, packing_model}
-
-ok-err : {A B E : Type 0} {a : A} {e : E} → ◌≡◌ {A = Result A E} (Err e) (Ok a) → B
-ok-err h = let z : ◌≡◌ {A = ℕ} 0 1 = cc in absurd (omega arith)
-
--- what a payload reads as holds
-reads-holds : (l : Layout) (p vs : List ℕ) → reads_as l p ≡ Ok vs → Holds l vs
-reads-holds l p vs e = short (nat_le (length p) 65535) e
-  where
-    fields : (r : Result (List ℕ) FieldFault) → reads l (from p 0) ≡ r → as_payload r ≡ Ok vs → Holds l vs
-    fields (Ok ws) f g = (lawful l).reads_records p vs (f ∙ (let h : ws ≡ vs = cc in ap Ok h))
-    fields (Err e) f g = ok-err g
-
-    short : (b : Bool) → cond b (as_payload (reads l (from p 0))) (Err TooLong) ≡ Ok vs → Holds l vs
-    short true f = fields (reads l (from p 0)) refl f
-    short false f = ok-err f
-
--- a written payload reads as its record
-reads-payload : (l : Layout) (vs : List ℕ) → Holds l vs → size l vs ≤ 65535 → reads_as l (payload l vs) ≡ Ok vs
-reads-payload l vs h short =
-    ap (λ b. cond b (as_payload (reads l (from (payload l vs) 0))) (Err TooLong)) (le-leb (length (payload l vs)) 65535 (omega (arith, length-payload l vs)))
-    ∙ ap as_payload ((lawful l).reads_as_written vs h)
 
 never : {A : Type 0} {m : List Packed} {f : OfferFault} → refused f ≡ granted m → A
 never e = let z : ◌≡◌ {A = ℕ} 0 1 = cc in absurd (omega arith)

@@ -1,5 +1,5 @@
 -- Type 45, frame packing: what is in force of it, and what its messages do.
-use Rattle.std.specs.Prelude.{◌≡◌, ℕ, ◌+◌, ◌<◌, ◌≤◌, Bool, true, false, cond, List, [], ◌∷◌, ◌++◌, map, length, Ok, Err, filter, Result, ◌==◌, nat_le, nat_lt}
+use Rattle.std.specs.Prelude.{◌≡◌, ℕ, ◌+◌, ◌<◌, ◌≤◌, Bool, cond, List, [], ◌∷◌, ◌++◌, map, length, Ok, Err, filter, Result, ◌==◌, nat_le, nat_lt}
 use Rattle.std.specs.List.{AllByRecursion}
 use Rattle.layouts.specs.Layout.{Inside, Holds}
 use Rattle.layouts.specs.Payloads.{payload}
@@ -13,6 +13,7 @@ use Rattle.kinds.specs.declared.in_force.Stay.{Stay}
 use Rattle.kinds.specs.declared.in_force.Stay.TheVariants.{Once, Stays}
 use Rattle.kinds.specs.Model.{Model}
 use Rattle.kinds.specs.Outcome.{Outcome, granted, passed, refused}
+use Rattle.kinds.specs.Single.{outlasting}
 
 -- a packing in force: its id, and its content by its numbers with its stay
 pub record Packed : Type 0 where
@@ -50,10 +51,6 @@ pub record Sound (m : List Packed) : Type 0 where
   pub propers : AllByRecursion Proper m
 
 -- ---- what changes it
-
-abbrev pub outlasting : Stay → Bool
-outlasting Once = false
-outlasting Stays = true
 
 abbrev pub outlasts : Packed → Bool
 outlasts x = outlasting x.thing.stay

@@ -1,11 +1,10 @@
 -- A table of packings, and what it means.
-use Rattle.std.specs.Prelude.{ℕ, Bool, true, false, ◌&&◌, List, [], ◌∷◌, map, Some, None, Ok, Err, Option, Result, nat_lt}
-use Rattle.records.specs.declared.fault.PayloadFault.{PayloadFault}
+use Rattle.std.specs.Prelude.{ℕ, Bool, true, ◌&&◌, List, [], ◌∷◌, map, Some, None, Option, nat_lt}
 use Rattle.frame_packing.specs.declared.message.FramePacking.{FramePacking}
-use Rattle.frame_packing.specs.FramePacking.{content_numbers, is_cancel}
+use Rattle.frame_packing.specs.FramePacking.{content_numbers}
 use Rattle.kinds.specs.declared.in_force.InForce.{InForce}
 use Rattle.frame_packings.specs.declared.packing.Packing.{Packing}
-use Rattle.frame_packings.specs.Packings.{Packed, packing_stay, packed, full, payload_of}
+use Rattle.frame_packings.specs.Packings.{Packed, packing_stay, packed, payload_of}
 
 -- what a packing means
 abbrev pub packed_of : Packing → Packed
@@ -33,16 +32,6 @@ meaning_of ps = map packed_of ps
 abbrev pub handed_out : Option Packing → Option (InForce Packing)
 handed_out None = None
 handed_out (Some p) = Some (record { content = p; stay = packing_stay (content_numbers p.arrangement) })
-
--- whether a message was read that cancels
-abbrev pub cancels_of : Result FramePacking PayloadFault → Bool
-cancels_of (Ok x) = is_cancel x.arrangement
-cancels_of (Err e) = false
-
--- whether a message was read, and four packings of other ids are in force
-abbrev pub full_of : List Packed → Result FramePacking PayloadFault → Bool
-full_of m (Ok x) = full x.id.number m
-full_of m (Err e) = false
 
 -- the payloads that bring back what a table means
 abbrev pub part_of : List Packing → List (List ℕ)

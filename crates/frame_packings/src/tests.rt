@@ -10,7 +10,7 @@ use std::process::Abort;
 use std::test::Fail;
 
 // What an offer answers: the number and the place of its refusal, as they are told, 0 and 0 where it is granted, 255
-// where it is passed.
+// where it is passed; numbers, as the tables of the documents have them.
 fn told(kind: &mut FramePackings, payload: &[u8]) -> (u8, usize) {
     match kind.offer(payload) {
         Ok(Offered::Granted) => (0, 0),
@@ -19,7 +19,7 @@ fn told(kind: &mut FramePackings, payload: &[u8]) -> (u8, usize) {
     }
 }
 
-// The number of a refusal, or 0 where there is none.
+// The number of a refusal, or 0 where there is none; a number, as the tables of the documents have them.
 fn number(answer: Result<usize, LookFault>) -> u8 {
     match answer {
         Ok(_) => 0,
@@ -27,7 +27,7 @@ fn number(answer: Result<usize, LookFault>) -> u8 {
     }
 }
 
-// No id; a number, as the tables have them.
+// No id; a number, as the tables of the documents have them.
 const NONE: u32 = u32::MAX;
 
 // The ids in force.

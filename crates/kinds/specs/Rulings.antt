@@ -15,14 +15,14 @@ use Rattle.kinds.specs.declared.in_force.Stay.{Stay}
 use Rattle.kinds.specs.Single.{Ruled}
 use Rattle.kinds.specs.Contents.{uncanceled, always, canceling, constant}
 
-ok-err : {A B E : Type 0} {a : A} {e : E} → ◌≡◌ {A = Result A E} (Err e) (Ok a) → B
+pub ok-err : {A B E : Type 0} {a : A} {e : E} → ◌≡◌ {A = Result A E} (Err e) (Ok a) → B
 ok-err h = let z : ◌≡◌ {A = ℕ} 0 1 = cc in absurd (omega arith)
 
 none-some : {A : Type 0} {vs : List ℕ} → ◌≡◌ {A = Result (Option (List ℕ)) PayloadFault} (Ok None) (Ok (Some vs)) → A
 none-some h = let z : ◌≡◌ {A = ℕ} 0 1 = cc in absurd (omega arith)
 
 -- what a payload reads as holds
-reads-holds : (l : Layout) (p vs : List ℕ) → reads_as l p ≡ Ok vs → Holds l vs
+pub reads-holds : (l : Layout) (p vs : List ℕ) → reads_as l p ≡ Ok vs → Holds l vs
 reads-holds l p vs e = short (nat_le (length p) 65535) e
   where
     fields : (r : Result (List ℕ) FieldFault) → reads l (from p 0) ≡ r → as_payload r ≡ Ok vs → Holds l vs
@@ -34,7 +34,7 @@ reads-holds l p vs e = short (nat_le (length p) 65535) e
     short false f = ok-err f
 
 -- a written payload reads as its record
-reads-payload : (l : Layout) (vs : List ℕ) → Holds l vs → size l vs ≤ 65535 → reads_as l (payload l vs) ≡ Ok vs
+pub reads-payload : (l : Layout) (vs : List ℕ) → Holds l vs → size l vs ≤ 65535 → reads_as l (payload l vs) ≡ Ok vs
 reads-payload l vs h short =
     ap (λ b. cond b (as_payload (reads l (from (payload l vs) 0))) (Err TooLong)) (le-leb (length (payload l vs)) 65535 (omega (arith, length-payload l vs)))
     ∙ ap as_payload ((lawful l).reads_as_written vs h)

@@ -12,7 +12,9 @@ use records::cancelable::Body;
 use records::fault::PayloadFault;
 use records::record::Record;
 
-// The content of such a message, and how long it stays.
+// The content of such a message, and how long it stays. Its type and its greatest length stand here as in `Content` and in
+// `Kind`: a trait of the two alone would want an impl of its own for each message, longer than what it would say once. The
+// impls of the messages differ in all that they say.
 pub trait Canceling: Body {
     ghost TYPE: { ℕ };
 

@@ -92,7 +92,7 @@ impl Fault for LookFault {
     fn number(&self) -> u8 {
         match *self {
             LookFault::Missing => 12,
-            LookFault::ShortBuffer => 13,
+            LookFault::ShortBuffer => ShortBuffer {}.number(),
         }
     }
 

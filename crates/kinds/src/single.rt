@@ -76,9 +76,10 @@ impl<C: Content> Kind for Single<C> {
     }
 
     fn count(&self) -> usize {
-        self.content.is_some() as usize
+        usize::from(self.content.is_some())
     }
 
+    // Payload 0 alone, here and in `payload`: a function for both would want a contract, longer than the two guards.
     fn payload_len(&self, n: usize) -> Option<usize> {
         match &self.content {
             Some(content) if n == 0 => Some(content.payload_len()),

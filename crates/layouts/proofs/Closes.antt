@@ -51,22 +51,25 @@ closing-is p =
     (cases_eq (p % 8) 0)
 
 module _ (bs : List ℕ) (p : ℕ) (within : p ≤ 8 * length bs) where
-  pub closes-not : (8 * length bs - p ≡ (8 - p % 8) % 8 → ⊥) → closes (from bs p) ≡ Err (Ending p)
+  pub closes-not : (8 * length bs - p ≡ length (closing p) → ⊥) → closes (from bs p) ≡ Err (Ending p)
   unfolding closes
-  closes-not n = rw (same_not (drop p (bits_of bs)) (closing p) (λ e. n (sym (length_from bs p) ∙ ap length e ∙ (closing-is p).0)))
+  closes-not n = rw (same_not (drop p (bits_of bs)) (closing p) (λ e. n (sym (length_from bs p) ∙ ap length e)))
 
-  pub closes-else : (v : ℕ) → 8 * length bs - p ≡ (8 - p % 8) % 8 → v ≡ number (take ((8 - p % 8) % 8) (drop p (bits_of bs))) → (v ≡ 2 ^ ((8 - p % 8) % 8) / 2 → ⊥) → closes (from bs p) ≡ Err (Ending p)
+  pub closes-else : (v : ℕ) → 8 * length bs - p ≡ length (closing p) → v ≡ number (take (length (closing p)) (drop p (bits_of bs))) → (v ≡ number (closing p) → ⊥) → closes (from bs p) ≡ Err (Ending p)
   unfolding closes
   closes-else v r e n =
       let l = drop p (bits_of bs) in
-      let all = take_all ((8 - p % 8) % 8) l (omega (arith, length_from bs p)) in
-      rw (same_not l (closing p) (λ s. n (e ∙ ap number all ∙ ap number s ∙ (closing-is p).1)))
+      let all = take_all (length (closing p)) l (omega (arith, length_from bs p)) in
+      rw (same_not l (closing p) (λ s. n (e ∙ ap number all ∙ ap number s)))
 
-  pub closes-so : (v : ℕ) → 8 * length bs - p ≡ (8 - p % 8) % 8 → v ≡ number (take ((8 - p % 8) % 8) (drop p (bits_of bs))) → v ≡ 2 ^ ((8 - p % 8) % 8) / 2 → closes (from bs p) ≡ Ok tt
+  pub closes-so : (v : ℕ) → 8 * length bs - p ≡ length (closing p) → v ≡ number (take (length (closing p)) (drop p (bits_of bs))) → v ≡ number (closing p) → closes (from bs p) ≡ Ok tt
   unfolding closes
   closes-so v r e f =
       let l = drop p (bits_of bs) in
       let long = length_from bs p in
-      let all = take_all ((8 - p % 8) % 8) l (omega arith) in
-      let i : l ≡ closing p = number_same l (closing p) (long ∙ r ∙ sym (closing-is p).0) (sym (ap number all) ∙ sym e ∙ f ∙ sym (closing-is p).1) in
+      let all = take_all (length (closing p)) l (omega arith) in
+      let i : l ≡ closing p = number_same l (closing p) (long ∙ r) (sym (ap number all) ∙ sym e ∙ f) in
       rw (i, same_refl (closing p))
+
+-- whether what is left closes
+pub ruleset closing_left = (closes-not, closes-else, closes-so)

@@ -91,3 +91,9 @@ module _ (bs : List ℕ) (p : ℕ) (within : p ≤ 8 * length bs) where
       f ∙ ap (λ x. number (take (x + 1) (drop (p + x) (bits_of bs)))) e ∙ sym (ap (λ x. number (take (zeros l + 1) x)) (drop-drop (zeros l) p (bits_of bs))) in
       let w : p + (zeros l + 1 + zeros l) ≡ p + 2 * z + 1 = omega arith in
       (omega (arith, q.0), rw (lt-leb 32 (zeros l) (omega arith), le-leb (zeros l + 1 + zeros l) (length l) (omega arith), q.1, sym g, drop-drop (zeros l + 1 + zeros l) p (bits_of bs), w))
+
+  pub ue-first : (z v : ℕ) → z ≡ zeros (drop p (bits_of bs)) → z < 32 → 2 * z + 1 ≤ 8 * length bs - p → v ≡ number (take (z + 1) (drop (p + z) (bits_of bs))) → 1 ≤ v
+  ue-first z v e k h f = (ue-whole z v e k h f).0
+
+-- the zeros that come next, and a ue
+pub ruleset ue_left = (head-zeros, ue-many, ue-short, ue-whole, ue-first)

@@ -15,10 +15,6 @@ unfolding bits_of
 length-bits [] = refl
 length-bits (b ∷ bs) = simp (length-append, length-word) (omega (arith, length-bits bs))
 
-bit_le : (b : Bool) → bit b ≤ 1
-bit_le true = omega arith
-bit_le false = omega arith
-
 pub bit-of : (n : ℕ) → bit (eqb (n % 2) 1) ≡ n % 2
 bit-of n =
     let h : n % 2 < 2 = mod-lt n (omega arith) in

@@ -1,20 +1,20 @@
 -- The next field, by the bytes and the place that a reader holds.
-use Rattle.std.proofs.Common.{◌≡◌, ℕ, zero, suc, ◌+◌, ◌-◌, ◌*◌, ◌^◌, ◌<◌, ◌≤◌, min, Bool, true, false, eqb, leb, List, length, take, drop, ℤ, ◌≤ℤ◌, ◌<ℤ◌, Ok, Err, Result, sym, refl, ap, ◌∙◌, subst, ⊎_elim, arith, length-drop, length-take, length-take-le, take_all, drop-drop, pow_mono, w32, SFits, of_z}
+use Rattle.std.proofs.Common.{◌≡◌, ℕ, ◌+◌, ◌-◌, ◌*◌, ◌^◌, ◌<◌, ◌≤◌, min, Bool, true, List, length, take, drop, ℤ, ◌≤ℤ◌, Ok, Err, Result, sym, refl, ap, ◌∙◌, ⊎_elim, arith, length-drop, length-take, take_all, drop-drop, pow_mono, w32, SFits, of_z}
 use lib.Signed.{le_z}
 use Rattle.std.proofs.lemmas.Int.{ints, to_z-of_z}
-use Rattle.std.proofs.lemmas.Bool.{le-leb, lt-leb, leb-true, cases_Bool, cases_lt}
+use Rattle.std.proofs.lemmas.Bool.{le-leb, lt-leb, cases_lt}
 use Rattle.layouts.specs.declared.fault.FieldFault.{FieldFault}
 use Rattle.layouts.specs.declared.fault.FieldFault.TheVariants.{Short, OutOfRange}
-use Rattle.layouts.specs.Bits.{bit, number, bits_of}
+use Rattle.layouts.specs.Bits.{number, bits_of}
 use Rattle.layouts.specs.Layout.{Left, past, and_then, Verdict, fine, out_of_range, judged, at_most, between, Code, u, within, fixed, next, next_u, next_ue, from}
 use Rattle.layouts.proofs.Numbers.{length-bits, number_lt}
 
 -- as many as there are, and at most k
-pub take_min : (bs : List ℕ) (k n : ℕ) → n ≡ min (length bs) k → take n bs ≡ take k bs
-take_min bs k n e =
+pub take_min : (bs : List ℕ) (k : ℕ) → take (min (length bs) k) bs ≡ take k bs
+take_min bs k =
     ⊎_elim
-    (λ h. let f : n ≡ length bs = omega arith in ap (λ x. take x bs) f ∙ take_all (length bs) bs (omega arith) ∙ sym (take_all k bs (omega arith)))
-    (λ h. let f : n ≡ k = omega arith in ap (λ x. take x bs) f)
+    (λ h. let f : min (length bs) k ≡ length bs = omega arith in ap (λ x. take x bs) f ∙ take_all (length bs) bs (omega arith) ∙ sym (take_all k bs (omega arith)))
+    (λ h. let f : min (length bs) k ≡ k = omega arith in ap (λ x. take x bs) f)
     (cases_lt (length bs) k)
 
 pub length_from : (bs : List ℕ) (p : ℕ) → length (from bs p).rest ≡ 8 * length bs - p
@@ -37,37 +37,9 @@ ok-parts {m} {n} {s} {t} e = (ap (λ r. (got s r).0) e, ap (λ r. (got s r).1) e
 
 -- ---- a number of w bits is below 2 ^ w, so a flag's is that of a bit
 
-pub next-below : (w v : ℕ) (s t : Left) → next (u w) s ≡ Ok (v, t) → v < 2 ^ w
-unfolding next_u next_ue
-next-below w v s t e =
-    ⊎_elim
-    (λ b.
-    let f : Ok (number (take w s.rest), past w s) ≡ Ok (v, t) = rw b at e in
-    let n : number (take w s.rest) ≡ v = (ok-parts f).0 in
-    let long : length (take w s.rest) ≡ w = length-take-le w s.rest (leb-true w (length s.rest) b) in
-    subst (λ x. x < 2 ^ w) n (subst (λ x. number (take w s.rest) < 2 ^ x) long (number_lt (take w s.rest))))
-    (λ b. let f : Err (Short s.place) ≡ Ok (v, t) = rw b at e in let z : ◌≡◌ {A = ℕ} 0 1 = cc in absurd (omega arith))
-    (cases_Bool (leb w (length s.rest)))
-
-bit-small : (v : ℕ) → v < 2 → bit (eqb v 1) ≡ v
-bit-small zero h = refl
-bit-small (suc zero) h = refl
-bit-small (suc (suc v)) h = absurd (omega arith)
-
-pub next-flag : (v : ℕ) (s t : Left) → next (u 1) s ≡ Ok (v, t) → next (u 1) s ≡ Ok (bit (eqb v 1), t)
-next-flag v s t e = rw (bit-small v (next-below 1 v s t e)) e
-
 -- ---- a field whose number is judged
 
 module _ (c : Code) (ok : ℕ → Verdict) (s : Left) where
-  pub within-err : (e : FieldFault) → next c s ≡ Err e → next (within c ok) s ≡ Err e
-  unfolding next_u next_ue
-  within-err e h = ap (λ r. and_then r (λ a. judged (ok a.0) s.place a)) h
-
-  pub within-fine : (v : ℕ) (t : Left) → next c s ≡ Ok (v, t) → ok v ≡ fine → next (within c ok) s ≡ Ok (v, t)
-  unfolding next_u next_ue
-  within-fine v t h f = ap (λ r. and_then r (λ a. judged (ok a.0) s.place a)) h ∙ ap (λ b. judged b s.place (v, t)) f
-
   pub within-out : (v : ℕ) (t : Left) → next c s ≡ Ok (v, t) → ok v ≡ out_of_range → next (within c ok) s ≡ Err (OutOfRange s.place)
   unfolding next_u next_ue
   within-out v t h f = ap (λ r. and_then r (λ a. judged (ok a.0) s.place a)) h ∙ ap (λ b. judged b s.place (v, t)) f
@@ -75,26 +47,12 @@ module _ (c : Code) (ok : ℕ → Verdict) (s : Left) where
 pub at-most : (m v : ℕ) → v ≤ m → at_most m v ≡ fine
 at-most m v h = rw (le-leb v m h)
 
-pub above_most : (m v : ℕ) → m < v → at_most m v ≡ out_of_range
-above_most m v h = rw (lt-leb v m h)
-
 le_z-so : (a b : ℤ) → a ≤ℤ b → le_z a b ≡ true
 le_z-so a b h = grind (arith, ints)
-
-le_z-not : (a b : ℤ) → b <ℤ a → le_z a b ≡ false
-le_z-not a b h = grind (arith, ints)
 
 pub between-fine : (low high x : ℤ) → SFits w32 x → low ≤ℤ x → x ≤ℤ high → between low high (of_z w32 x) ≡ fine
 unfolding between
 between-fine low high x f l h = rw (to_z-of_z w32 x f, le_z-so low x l, le_z-so x high h)
-
-pub below-low : (low high x : ℤ) → SFits w32 x → x <ℤ low → between low high (of_z w32 x) ≡ out_of_range
-unfolding between
-below-low low high x f l = rw (to_z-of_z w32 x f, le_z-not low x l)
-
-pub above-high : (low high x : ℤ) → SFits w32 x → low ≤ℤ x → high <ℤ x → between low high (of_z w32 x) ≡ out_of_range
-unfolding between
-above-high low high x f l h = rw (to_z-of_z w32 x f, le_z-so low x l, le_z-not x high h)
 
 pub taken-below : (w v : ℕ) (l : List Bool) → v ≡ number (take w l) → v < 2 ^ w
 taken-below w v l e =
@@ -107,9 +65,18 @@ taken-below w v l e =
 pub fixed-narrow : (w : ℕ) → w ≤ 32 → fixed w ≡ u w
 fixed-narrow w h = rw (le-leb w 32 h)
 
+pub fixed-short : (bs : List ℕ) (p w : ℕ) → w ≤ 32 → p ≤ 8 * length bs → 8 * length bs < p + w → next (fixed w) (from bs p) ≡ Err (Short p)
+fixed-short bs p w n h k = ap (λ (c : Code). next c (from bs p)) (fixed-narrow w n) ∙ next-short bs p w h k
+
+pub fixed-whole : (bs : List ℕ) (p w v : ℕ) → w ≤ 32 → p + w ≤ 8 * length bs → v ≡ number (take w (drop p (bits_of bs))) → next (fixed w) (from bs p) ≡ Ok (v, from bs (p + w))
+fixed-whole bs p w v n h e = ap (λ (c : Code). next c (from bs p)) (fixed-narrow w n) ∙ next-whole bs p w v h e
+
 next-none : (s : Left) → next (u 0) s ≡ Ok (number (take 0 s.rest), past 0 s)
 unfolding next_u
 next-none s = rw (le-leb 0 (length s.rest) (omega arith))
 
 pub fixed-wide : (w : ℕ) (s : Left) → 32 < w → next (fixed w) s ≡ Err (OutOfRange s.place)
 fixed-wide w s h = rw (lt-leb w 32 h) (within-out (u 0) (λ _. out_of_range) s _ _ (next-none s) refl)
+
+-- the number of a width that comes next
+pub ruleset fixed_left = (fixed-wide, fixed-short, fixed-whole, taken-below)

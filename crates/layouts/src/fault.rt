@@ -25,8 +25,9 @@ impl fmt::Display for Layer {
     }
 }
 
-// A refusal: which question was answered with "no", in which layer, and where. Each is an enum; its number is what is
-// told outside.
+// A refusal: which question was answered with "no", in which layer, and where. Each is an enum, or
+// `ShortBuffer`; its number is what is told outside. Three functions and no struct of the three: each hands its own
+// question on to the fault below, at other cases than the others, and a caller takes what it needs.
 pub trait Fault {
     ghost number: { Self → ℕ };
 

@@ -1,6 +1,6 @@
 -- A reader over a whole payload, and a writer over a whole buffer.
 use Rattle.std.proofs.Common.{◌≡◌, ℕ, ◌<◌, ◌≤◌, cond, List, length, get_or, take, Ok, Err, Result, sym, ap, ◌∙◌, arith, take_all}
-use Rattle.std.proofs.lemmas.Bool.{le-leb, lt-leb}
+use Rattle.std.proofs.lemmas.Bool.{le-leb}
 use Rattle.layouts.specs.declared.fault.FieldFault.{FieldFault}
 use Rattle.layouts.specs.Bits.{bits_of}
 use Rattle.layouts.specs.Frames.{fronted}
@@ -32,10 +32,6 @@ module _ (l : Layout) (vs : List ℕ) (holds : Holds l vs) (short : size l vs �
   reads-back =
       ap (λ b. cond b (as_payload (reads l (from (payload l vs) 0))) (Err TooLong)) (le-leb (length (payload l vs)) 65535 (omega (arith, length-payload l vs)))
       ∙ ap as_payload ((lawful l).reads_as_written vs holds)
-
-  -- where it does not fit
-  pub written-short : (buffer : List ℕ) → length buffer < length (payload l vs) → (Err (record {}), buffer) ≡ written (payload l vs) buffer
-  written-short buffer h = rw (lt-leb (length (payload l vs)) (length buffer) h)
 
   -- where it fits: after is what the writer left in the buffer
   pub written-whole : (before after : List ℕ) (n loan : ℕ) (s t : Sheet) → n ≡ length (payload l vs) → length (payload l vs) ≤ length before → ((i : ℕ) → get_or before i 0 < 256) → ((i : ℕ) → get_or after i 0 < 256)

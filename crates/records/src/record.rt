@@ -1,12 +1,14 @@
 // What a message's record is to its payload: how it is read, how long it is, how it is written.
-ghost use Rattle.std.specs.Prelude.{◌≡◌, ℕ, ◌/◌, ◌≤◌, ◌↔◌, List, length, IfOk, Ok};
+ghost use Rattle.std.specs.Prelude.{◌≡◌, ℕ, ◌/◌, ◌<◌, ◌≤◌, ◌↔◌, List, length, IfOk, MatchResult, Ok};
 ghost use Rattle.layouts.specs.Layout.{Layout, Holds, Plain, from};
 ghost use Rattle.layouts.specs.Payloads.{size, payload as payload_of};
 ghost use Rattle.fields.specs.Reading.{left};
 ghost use Rattle.fields.specs.Writing.{sheet, lays};
+ghost use Rattle.records.specs.declared.fault.PayloadFault.TheVariants.{TooLong};
 ghost use Rattle.records.specs.Record.{reads_as, numbered, Decoded, written};
 
 use crate::fault::PayloadFault;
+use fields::LONGEST;
 use fields::reader::Reader;
 use fields::writer::Writer;
 use layouts::fault::{FieldFault, ShortBuffer};
@@ -34,9 +36,7 @@ pub trait Record: Sized {
         ensures value { numbered numbers result ≡ reads_as layout payload.now }
         ensures plain { IfOk result (λ q. (payload_of layout (numbers q) ≡ payload.now) ↔ Plain layout (from payload.now 0)) }
     {
-        if payload.len() > 65_535 {
-            return Err(PayloadFault::TooLong);
-        }
+        check_length(payload)?;
         let record = Self::decode(Reader::new(payload))?;
         Ok(record)
     }
@@ -74,6 +74,16 @@ pub trait Record: Sized {
     ghost short: { (vs : List ℕ) → Holds layout vs → size layout vs ≤ greatest };
 
     ghost limited: { greatest ≤ 65535 };
+}
+
+// Refuses a payload of more than 65,535 bytes.
+pub fn check_length(payload: &[u8]) -> Result<(), PayloadFault>
+    ensures { MatchResult result (λ _. length payload.now ≤ 65535) (λ e. (65535 < length payload.now) × (e ≡ TooLong)) }
+{
+    if payload.len() > LONGEST {
+        return Err(PayloadFault::TooLong);
+    }
+    Ok(())
 }
 
 // The bytes that so many bits fill.

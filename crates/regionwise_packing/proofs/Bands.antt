@@ -1,9 +1,9 @@
 -- A guard band that is read part by part.
-use Rattle.std.proofs.Common.{◌≡◌, ℕ, ◌+◌, ◌*◌, ◌≤◌, [], ◌∷◌, Ok, Err, sym, ap, ◌∙◌, arith}
+use Rattle.std.proofs.Common.{◌≡◌, ℕ, ◌+◌, ◌*◌, [], ◌∷◌, Ok, Err, sym, ap, ◌∙◌, arith}
 use Rattle.layouts.specs.declared.fault.FieldFault.{FieldFault}
 use Rattle.layouts.specs.Bits.{word}
 use Rattle.fields.specs.Groups.{before, WritesGroup}
-use Rattle.layouts.specs.Layout.{Left, Layout, reserved, flag, u, fixed, next, reads}
+use Rattle.layouts.specs.Layout.{Left, Layout, reserved, flag, u, next, reads}
 use Rattle.fields.specs.Writing.{Sheet, put, lays}
 use Rattle.fields.proofs.Groups.{before-before, field-reads, field-err, reserved-reads, reserved-err, next_place, fixed-place}
 use Rattle.regionwise_packing.specs.Regions.{four, guard_band}
@@ -13,10 +13,8 @@ use Rattle.regionwise_packing.specs.Makings.{WritesFour}
 abbrev pub ReadFour : ℕ → Left → ℕ → ℕ → ℕ → ℕ → Left → Type 0
 ReadFour w s a b c d t = (l : ℕ → ℕ → ℕ → ℕ → Layout) → reads (four w l) s ≡ before (a ∷ b ∷ c ∷ d ∷ []) (reads (l a b c d) t)
 
-pub four-place : (w : ℕ) (s0 s1 s2 s3 s4 : Left) (a b c d : ℕ) → w ≤ 32 → next (fixed w) s0 ≡ Ok (a, s1) → next (fixed w) s1 ≡ Ok (b, s2) → next (fixed w) s2 ≡ Ok (c, s3) → next (fixed w) s3 ≡ Ok (d, s4)
-    → s4.place ≡ s0.place + 4 * w
-four-place w s0 s1 s2 s3 s4 a b c d h e0 e1 e2 e3 =
-    omega (arith, fixed-place w a s0 s1 h e0, fixed-place w b s1 s2 h e1, fixed-place w c s2 s3 h e2, fixed-place w d s3 s4 h e3)
+-- the places behind four fields
+pub ruleset four_places = (fixed-place)
 
 pub band-none : (s0 : Left) (z : FieldFault) → ((l : ℕ → ℕ → ℕ → ℕ → Layout) → reads (four 8 l) s0 ≡ Err z) → (l : Layout) → reads (guard_band l) s0 ≡ Err z
 band-none s0 z f l = f (λ _ _ _ _. flag λ _. four 3 λ _ _ _ _. reserved 3 l)

@@ -1,5 +1,6 @@
-mod Bands
+pub mod Bands
 mod Contents
+mod Exits
 mod Loops
 mod Reading
 mod Writing

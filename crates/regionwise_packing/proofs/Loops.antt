@@ -1,8 +1,6 @@
 -- Regions one after the other: read, written and gathered.
-use Rattle.std.proofs.Common.{◌≡◌, ℕ, zero, suc, ◌+◌, ◌-◌, ◌<◌, ◌≤◌, Bool, true, false, cond, ◌&&◌, ltb, List, [], ◌∷◌, ◌++◌, length, get_or, take, Err, sym, refl, ap, ◌∙◌, append_assoc, append-nil, arith, length-append, length-take}
-use Rattle.std.proofs.lemmas.List.{take_more}
-use Rattle.std.proofs.lemmas.Bool.{and_parts, and_from}
-use Rattle.std.proofs.Math.Bool.{and-false}
+use Rattle.std.proofs.Common.{◌≡◌, ℕ, ◌+◌, ◌-◌, ◌<◌, ◌≤◌, Bool, true, cond, ltb, List, [], ◌∷◌, ◌++◌, length, take, Err, sym, ap, ◌∙◌, append-nil, arith, length-append}
+use Rattle.std.proofs.lemmas.Grind.{common_steps, flat_map-append}
 use Rattle.layouts.specs.declared.fault.FieldFault.{FieldFault}
 use Rattle.fields.specs.Groups.{before}
 use Rattle.layouts.specs.Layout.{Left, Layout, times, reads}
@@ -15,14 +13,10 @@ use Rattle.regionwise_packing.specs.Regions.{inside, region}
 use Rattle.regionwise_packing.specs.Numbers.{region_numbers, regions_numbers, all_inside}
 
 numbers-push : (rs : List Region) (r : Region) → regions_numbers (rs ++ r ∷ []) ≡ regions_numbers rs ++ region_numbers r
-numbers-push [] r = append-nil (region_numbers r)
-numbers-push (q ∷ rs) r = ap (λ x. region_numbers q ++ x) (numbers-push rs r) ∙ sym (append_assoc (region_numbers q) (regions_numbers rs) (region_numbers r))
+numbers-push rs r = flat_map-append region_numbers rs (r ∷ []) ∙ ap (λ x. regions_numbers rs ++ x) (append-nil (region_numbers r))
 
 inside-push : (z : Size ℕ) (rs : List Region) (r : Region) → all_inside z rs ≡ true → inside z r.packed ≡ true → all_inside z (rs ++ r ∷ []) ≡ true
-inside-push z [] r e f = and_from (inside z r.packed) true f refl
-inside-push z (q ∷ rs) r e f =
-    let s = and_parts (inside z q.packed) (all_inside z rs) e in
-    and_from (inside z q.packed) (all_inside z (rs ++ r ∷ [])) s.0 (inside-push z rs r s.1 f)
+inside-push z rs r e f = grind (arith, common_steps)
 
 -- i of n regions are read, and all of them lie inside the picture
 abbrev pub Read : Size ℕ → ℕ → ℕ → Left → List Region → Left → Type 0
@@ -49,16 +43,3 @@ Written rs more s0 s = (z : Size ℕ) (k : Layout) (vs : List ℕ) → lays (tim
 -- i regions are gathered, all of them inside the picture
 abbrev pub Gathered : Size ℕ → ℕ → List Region → List Region → Type 0
 Gathered z i rs held = (held ≡ take i rs) × (all_inside z (take i rs) ≡ true)
-
-pub gather-more : (z : Size ℕ) (i : ℕ) (rs held more : List Region) (r : Region) (ok : Bool) → length rs ≤ 32 → i < length rs → Gathered z i rs held → r ≡ get_or rs i r → inside z r.packed ≡ true
-    → ok ≡ ltb (length held) 32 → more ≡ cond ok (held ++ r ∷ []) held → Gathered z (i + 1) rs more
-gather-more z i rs held more r ok few h inv e lies f g =
-    let t : take (i + 1) rs ≡ take i rs ++ r ∷ [] = take_more rs i r h ∙ ap (λ x. take i rs ++ x ∷ []) (sym e) in
-    let n : length held ≤ i = omega (arith, ap length inv.0, length-take i rs) in
-    (pushed 32 ok held more r (omega arith) f g ∙ ap (λ x. x ++ r ∷ []) inv.0 ∙ sym t, ap (all_inside z) t ∙ inside-push z (take i rs) r inv.1 lies)
-
--- one that lies outside
-pub outside-one : (z : Size ℕ) (i : ℕ) (rs : List Region) (r : Region) → i < length rs → r ≡ get_or rs i r → inside z r.packed ≡ false → all_inside z rs ≡ false
-outside-one z i [] r h e f = absurd (omega arith)
-outside-one z zero (q ∷ rs) r h e f = ap (λ x. inside z x.packed && all_inside z rs) (sym e) ∙ ap (λ b. b && all_inside z rs) f
-outside-one z (suc i) (q ∷ rs) r h e f = ap (λ b. inside z q.packed && b) (outside-one z i rs r (omega arith) e f) ∙ and-false (inside z q.packed)

@@ -1,5 +1,5 @@
 -- What making a guard band or a region answers, and what reading one does.
-use Rattle.std.specs.Prelude.{◌≡◌, ℕ, ◌<◌, Bool, true, false, ◌&&◌, List, [], ◌∷◌, Ok, Err, Option, Result, nat_lt}
+use Rattle.std.specs.Prelude.{◌≡◌, ℕ, ◌+◌, ◌<◌, Bool, true, false, ◌&&◌, List, [], ◌∷◌, Ok, Err, Option, Result, nat_lt, OnOk}
 use Rattle.layouts.specs.declared.fault.FieldFault.{FieldFault}
 use Rattle.layouts.specs.declared.fault.FieldFault.TheVariants.{OutOfRange}
 use Rattle.fields.specs.declared.reader.Reader.{Reader}
@@ -34,6 +34,10 @@ ReadsFour w r (Err e) q = (l : ℕ → ℕ → ℕ → ℕ → Layout) → reads
 abbrev pub ReadsShape : {A : Type 0} → (A → Four) → ℕ → Reader → Result A FieldFault → Reader → Type 0
 ReadsShape numbers w r (Ok a) q = ReadsFour w r (Ok (numbers a)) q
 ReadsShape numbers w r (Err e) q = ReadsFour w r (Err e) q
+
+-- a reader r that is asked for n bits and answers what it was asked for is after them
+abbrev pub Goes : {A : Type 0} → ℕ → Reader → Result A FieldFault → Reader → Type 0
+Goes n r result q = OnOk result ((left q).place ≡ (left r).place + n)
 
 -- four numbers of w bits lead from one sheet to another, whatever follows them
 abbrev pub WritesFour : ℕ → Four → Sheet → Sheet → Type 0

@@ -1,5 +1,6 @@
 -- The numbers of a region, field after field, and of regions one after the other.
-use Rattle.std.specs.Prelude.{ℕ, Bool, true, ◌&&◌, List, [], ◌∷◌, ◌++◌, is_some, Some, None, Option}
+use Rattle.std.specs.Prelude.{ℕ, Bool, List, [], ◌∷◌, ◌++◌, is_some, Some, None, Option}
+use Rattle.std.specs.List.{list_all, flat_map}
 use Rattle.layouts.specs.Bits.{bit}
 use Rattle.regionwise_packing.specs.declared.guard_band.GuardBand.{GuardBand}
 use Rattle.regionwise_packing.specs.declared.region.Region.{Region}
@@ -19,10 +20,8 @@ abbrev pub region_numbers : Region → List ℕ
 region_numbers r = transform_number r.transform ∷ bit (is_some r.guard) ∷ (rectangle_numbers r.projected ++ (rectangle_numbers r.packed ++ option_numbers r.guard))
 
 abbrev pub regions_numbers : List Region → List ℕ
-regions_numbers [] = []
-regions_numbers (r ∷ rs) = region_numbers r ++ regions_numbers rs
+regions_numbers regions = flat_map region_numbers regions
 
 -- every region lies inside the packed picture
 abbrev pub all_inside : Size ℕ → List Region → Bool
-all_inside picture [] = true
-all_inside picture (r ∷ rs) = inside picture r.packed && all_inside picture rs
+all_inside picture regions = list_all (λ r. inside picture r.packed) regions

@@ -1,6 +1,7 @@
 // Payloads with what they come to, proved of the definitions.
 ghost use Rattle.regionwise_packing.specs.Examples.{Examples};
 
+#[tactic(auto, unfolding(layouts::specs::Bits::word, layouts::specs::Bits::number, layouts::specs::Bits::bits_of, layouts::specs::Layout::next_u, layouts::specs::Layout::closing, layouts::specs::Layout::closes))]
 pub fn examples_stand()
     ensures { Examples }
 {}

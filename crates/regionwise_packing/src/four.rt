@@ -1,8 +1,7 @@
 // Four fields of one width, read and written as one.
-ghost use Rattle.std.specs.Prelude.{◌≡◌, ℕ, ◌+◌, ◌*◌, ◌^◌, ◌≤◌, IfOk, OnOk};
-ghost use Rattle.fields.specs.Reading.{left};
+ghost use Rattle.std.specs.Prelude.{◌≡◌, ℕ, ◌*◌, ◌^◌, ◌≤◌, IfOk};
 ghost use Rattle.fields.specs.Writing.{sheet};
-ghost use Rattle.regionwise_packing.specs.Makings.{Four as FourNumbers, ReadsShape, FourBelow, WritesFour, rectangle_four, sides_four};
+ghost use Rattle.regionwise_packing.specs.Makings.{Four as FourNumbers, ReadsShape, Goes, FourBelow, WritesFour, rectangle_four, sides_four};
 
 use crate::shapes::{Rectangle, Sides};
 use fields::reader::Reader;
@@ -10,6 +9,7 @@ use fields::writer::Writer;
 use layouts::fault::FieldFault;
 
 // A shape of four numbers, in the order in which they are read.
+// The trait is the crate's own: `of` asks of its callers that the numbers are below a bound. One for the grid positions of frame packing too would be public, and no public function here asks such a thing.
 pub(crate) trait Four: Copy {
     ghost numbers: { Self → FourNumbers };
 
@@ -48,6 +48,7 @@ impl Four for Sides<u8> {
     }
 }
 
+// `Rectangle<u16>` and `Rectangle<u32>` have an `impl` each: one over any type of number would need a trait for numbers with a bound.
 impl Four for Rectangle<u16> {
     ghost numbers = { rectangle_four };
 
@@ -92,11 +93,12 @@ impl Four for Rectangle<u32> {
 }
 
 // The shape of the four numbers of `width` bits that come next.
+#[tactic(auto, using(crate::proofs::Bands::four_places))]
 pub(crate) fn read<T: Four>(reader: &mut Reader, width: u32) -> Result<T, FieldFault>
     requires { (width ≤ 32) × (2 ^ width ≤ T.bound) }
     ensures reads { ReadsShape T.numbers width reader.old result reader.new }
     ensures fits { IfOk result (λ x. FourBelow (2 ^ width) (T.numbers x)) }
-    ensures goes { OnOk result ((left reader.new).place ≡ (left reader.old).place + 4 * width) }
+    ensures goes { Goes (4 * width) reader.old result reader.new }
 {
     let first = reader.bits(width)?;
     let second = reader.bits(width)?;

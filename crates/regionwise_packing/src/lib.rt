@@ -45,8 +45,8 @@ impl fmt::Display for RegionwisePacking {
         let regions = if count == 1 { "region" } else { "regions" };
         let packed = self.packed;
         let projected = self.projected;
-        let matching = self.matching as u8;
-        let persistence = self.persistence as u8;
+        let matching = u8::from(self.matching);
+        let persistence = u8::from(self.persistence);
         write!(f, "region-wise packing: {count} {regions}, ")?;
         write!(f, "packed picture {} by {}, ", packed.width, packed.height)?;
         write!(

@@ -3,7 +3,6 @@ ghost use Rattle.std.specs.Prelude.{◌≡◌, ℕ, ◌^◌, ◌≤◌, true, le
 ghost use Rattle.bounded.specs.Bounded.{items};
 ghost use Rattle.fields.specs.Groups.{ReadsGroup, WritesGroup};
 ghost use Rattle.layouts.specs.Layout.{times};
-ghost use Rattle.fields.specs.Reading.{left};
 ghost use Rattle.fields.specs.Writing.{sheet};
 ghost use Rattle.regionwise_packing.specs.declared.shapes.Size.{Size as SizeOf};
 ghost use Rattle.regionwise_packing.specs.Regions.{Sized, region as region_fields};
@@ -12,7 +11,7 @@ ghost use Rattle.regionwise_packing.specs.Packing.{packing, content_numbers, Rea
 
 use crate::RegionwisePacking;
 use crate::region::Region;
-use crate::shapes::Size;
+use crate::shapes::{Size, lacks_area};
 use bounded::Bounded;
 use fields::reader::Reader;
 use fields::writer::Writer;
@@ -29,17 +28,13 @@ impl RegionwisePacking {
     ) -> Result<RegionwisePacking, FieldFault>
         ensures { MakesPacking persistence matching projected packed regions.now result }
     {
-        if regions.len() == 0 {
+        if regions.is_empty() {
             return Err(FieldFault::OutOfRange(0));
         }
         if regions.len() > 32 {
             return Err(FieldFault::PastLimit(0));
         }
-        if projected.width == 0
-            || projected.height == 0
-            || packed.width == 0
-            || packed.height == 0
-        {
+        if lacks_area(projected, packed) {
             return Err(FieldFault::OutOfRange(0));
         }
         let regions = gathered(packed, regions).ok_or(FieldFault::PastLimit(0))?;
@@ -87,6 +82,7 @@ impl RegionwisePacking {
 }
 
 // The regions, where all of them lie inside the packed picture.
+#[tactic(auto, using(bounded::proofs::Cells::pushed))]
 fn gathered(packed: Size<u16>, regions: &[Region]) -> Option<Bounded<Region, 32>>
     requires { length regions.now ≤ 32 }
     ensures { Gathers packed regions.now result }
@@ -96,6 +92,7 @@ fn gathered(packed: Size<u16>, regions: &[Region]) -> Option<Bounded<Region, 32>
         if !region.is_inside(packed) {
             return None;
         }
+        // there is room for each, since they are 32 at most
         let _ = held.push(*region);
     }
     Some(held)
@@ -106,17 +103,13 @@ fn read_sizes(reader: &mut Reader) -> Result<(Size<u32>, Size<u16>), FieldFault>
     ensures reads { ReadsSizes reader.old result reader.new }
     ensures sized { IfOk result (λ x. Sized (2 ^ 32) x.0 × Sized (2 ^ 16) x.1) }
 {
-    let projected_width = reader.positive(32)?;
-    let projected_height = reader.positive(32)?;
-    let packed_width = reader.positive(16)?;
-    let packed_height = reader.positive(16)?;
     let projected = Size {
-        width: projected_width,
-        height: projected_height,
+        width: reader.positive(32)?,
+        height: reader.positive(32)?,
     };
     let packed = Size {
-        width: packed_width as u16,
-        height: packed_height as u16,
+        width: reader.positive(16)? as u16,
+        height: reader.positive(16)? as u16,
     };
     Ok((projected, packed))
 }
@@ -135,6 +128,7 @@ fn read_regions(
     // a region is read again and again, there is nothing to go over
     for _ in 0..count {
         let region = Region::read(reader, picture)?;
+        // there is room for each, since they are 32 at most
         let _ = regions.push(region);
     }
     Ok(regions)

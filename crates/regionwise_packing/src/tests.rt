@@ -22,7 +22,7 @@ const STARTS: [usize; 62] = [
     802, 805,
 ];
 
-// The number and the place of a payload's refusal, as they are told, or 0 and 0 where it is taken.
+// The number and the place of a payload's refusal, as they are told, or 0 and 0 where it is taken: numbers, as the tables of the documents have them.
 fn told(payload: &[u8]) -> (u8, usize) {
     match Option::<RegionwisePacking>::read(payload) {
         Ok(_) => (0, 0),
@@ -30,11 +30,11 @@ fn told(payload: &[u8]) -> (u8, usize) {
     }
 }
 
-// What is told of that region with one byte changed.
+// What is told of that region with one byte changed, as numbers too.
 fn told_with(index: usize, value: u8) -> (u8, usize) {
     let mut payload = ONE;
-    if index < 39 {
-        payload[index] = value;
+    if let Some(byte) = payload.get_mut(index) {
+        *byte = value;
     }
     told(&payload)
 }
@@ -134,10 +134,10 @@ fn cancel(rt: HostRuntime) -> Result<(), Fail> {
     assert_eq!(rt; told(&[0xC0]), (0, 0));
     assert_eq!(rt; told(&[0x80]), (9, 1), "it does not close");
     assert_eq!(rt; told(&[0xC0, 0x80]), (9, 1));
-    match Option::<RegionwisePacking>::read(&[0xC0])? {
-        None => {}
-        Some(_) => return Err(Fail::new("C0 cancels")),
-    }
+    assert!(rt;
+        Option::<RegionwisePacking>::read(&[0xC0])?.is_none(),
+        "C0 cancels"
+    );
     assert_eq!(rt; None::<RegionwisePacking>.write(&mut buffer)?, 1);
     assert_eq!(rt; buffer, [0xC0, 7]);
     Ok(())
@@ -149,7 +149,7 @@ fn every_truncation(rt: HostRuntime) -> Result<(), Fail> {
     let message = Some(packing(&[first, region(0, None)?, first])?);
     let mut buffer = [0; 102];
     assert_eq!(rt; message.write(&mut buffer)?, 101);
-    // a payload of every length
+    // by number, since the payload is cut at every length, and there is nothing but lengths to go over
     for len in 0..101 {
         let bits = len * 8;
         assert_eq!(rt; told(&buffer[0..len]), (6, cut(bits)), "{}", len);
@@ -173,28 +173,26 @@ fn written_and_read(rt: HostRuntime) -> Result<(), Fail> {
         "not used, and types 0, 1 and the start of 2"
     );
     assert_eq!(rt; buffer[44], 0xB8, "the rest of 2, 7 and reserved bits of 0");
-    match Option::<RegionwisePacking>::read(&buffer)? {
-        None => Err(Fail::new("it is no cancel")),
-        Some(read) => {
-            assert_eq!(rt; read.persistence, true);
-            assert_eq!(rt; read.matching, false);
-            assert_eq!(rt; read.projected.width, 4_096);
-            assert_eq!(rt; read.projected.height, 2_048);
-            assert_eq!(rt; read.packed.width, 66);
-            assert_eq!(rt; read.packed.height, 33);
-            assert_eq!(rt; read.regions.len(), 2);
-            assert_eq!(rt;
-                read.regions.get(0),
-                Some(first),
-                "guard widths of 0 are taken"
-            );
-            assert_eq!(rt; read.regions.get(1), Some(second));
-            assert_eq!(rt; read.regions.get(2), None);
-            assert_eq!(rt; read.write(&mut again)?, 70);
-            assert_eq!(rt; again, buffer);
-            Ok(())
-        }
-    }
+    let Some(read) = Option::<RegionwisePacking>::read(&buffer)? else {
+        return Err(Fail::new("it is no cancel"));
+    };
+    assert_eq!(rt; read.persistence, true);
+    assert_eq!(rt; read.matching, false);
+    assert_eq!(rt; read.projected.width, 4_096);
+    assert_eq!(rt; read.projected.height, 2_048);
+    assert_eq!(rt; read.packed.width, 66);
+    assert_eq!(rt; read.packed.height, 33);
+    assert_eq!(rt; read.regions.len(), 2);
+    assert_eq!(rt;
+        read.regions.get(0),
+        Some(first),
+        "guard widths of 0 are taken"
+    );
+    assert_eq!(rt; read.regions.get(1), Some(second));
+    assert_eq!(rt; read.regions.get(2), None);
+    assert_eq!(rt; read.write(&mut again)?, 70);
+    assert_eq!(rt; again, buffer);
+    Ok(())
 }
 
 #[test]
@@ -212,13 +210,11 @@ fn the_most(rt: HostRuntime) -> Result<(), Fail> {
     assert_eq!(rt; told(&buffer), (0, 0));
     let mut short = [0; 1_005];
     assert!(rt; most.write(&mut short).is_err());
-    match packing(&[first; 33]) {
-        Ok(_) => Err(Fail::new("33 regions are too many")),
-        Err(fault) => {
-            assert_eq!(rt; (fault.number(), fault.place()), (8, 0));
-            Ok(())
-        },
-    }
+    let Err(fault) = packing(&[first; 33]) else {
+        return Err(Fail::new("33 regions are too many"));
+    };
+    assert_eq!(rt; (fault.number(), fault.place()), (8, 0));
+    Ok(())
 }
 
 #[test]

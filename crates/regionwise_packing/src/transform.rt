@@ -7,14 +7,14 @@ use layouts::fault::FieldFault;
 // It is turned anticlockwise by what the name says, and then mirrored from left to right where the name says so.
 #[derive(Clone, Copy, PartialEq, Eq, Debug)]
 pub enum Transform {
-    Unturned,
-    Mirrored,
-    HalfTurn,
-    HalfTurnMirrored,
-    QuarterTurnMirrored,
-    QuarterTurn,
-    ThreeQuarterTurnMirrored,
-    ThreeQuarterTurn,
+    Unturned = 0,
+    Mirrored = 1,
+    HalfTurn = 2,
+    HalfTurnMirrored = 3,
+    QuarterTurnMirrored = 4,
+    QuarterTurn = 5,
+    ThreeQuarterTurnMirrored = 6,
+    ThreeQuarterTurn = 7,
 }
 
 impl TryFrom<u8> for Transform {
@@ -41,15 +41,6 @@ impl From<Transform> for u8 {
     ghost from_gives = { λ t n. n ≡ transform_number t };
 
     fn from(transform: Transform) -> u8 {
-        match transform {
-            Transform::Unturned => 0,
-            Transform::Mirrored => 1,
-            Transform::HalfTurn => 2,
-            Transform::HalfTurnMirrored => 3,
-            Transform::QuarterTurnMirrored => 4,
-            Transform::QuarterTurn => 5,
-            Transform::ThreeQuarterTurnMirrored => 6,
-            Transform::ThreeQuarterTurn => 7,
-        }
+        transform as u8
     }
 }

@@ -6,7 +6,7 @@ use script::line::UnitBytes;
 use std::io;
 use units::fault::UnitFault;
 use units::fill::{LONGEST, fill};
-use units::frame::Messages;
+use units::frame::{Message, Messages};
 use units::source::{Clean, Source};
 use units::unescaped::Unescaped;
 
@@ -28,19 +28,17 @@ fn show_unit<X: Source + Drop>(rt: &HostRuntime, mut source: X) -> io::Result<()
 
 // Judges the frame, and prints each message with its type, its place and its payload.
 fn show_messages(rt: &HostRuntime, bytes: &[u8]) -> io::Result<()> {
-    // `count` would ask that they are few enough to be counted
-    let total = match Messages::new(bytes) {
-        Ok(messages) => messages.fold(0usize, |count, _| count.saturating_add(1)),
+    let messages: Vec<Message> = match Messages::new(bytes) {
+        Ok(messages) => messages.collect(rt.alloc())?,
         Err(fault) => return show_refusal(rt, fault),
     };
+    let total = messages.len();
     print!(rt; "frame: {total} messages")?;
-    if let Ok(messages) = Messages::new(bytes) {
-        for message in messages {
-            let kind = message.kind;
-            let place = message.place;
-            let payload = behind_blank(rt, message.payload)?;
-            print!(rt; "; {kind} at {place}:{payload}")?;
-        }
+    for message in messages {
+        let kind = message.kind;
+        let place = message.place;
+        let payload = behind_blank(rt, message.payload)?;
+        print!(rt; "; {kind} at {place}:{payload}")?;
     }
     println!(rt; "")
 }

@@ -85,8 +85,9 @@ impl<S: Set> Session<S> {
         let told = tell(rt, &request);
         match &mut request.call {
             Call::Unit { scratch, .. } => mem::swap(scratch, &mut self.scratch),
-            Call::Look { buffer, .. } => mem::swap(buffer, &mut self.buffer),
-            Call::CatchUp { buffer } => mem::swap(buffer, &mut self.buffer),
+            Call::Look { buffer, .. } | Call::CatchUp { buffer } => {
+                mem::swap(buffer, &mut self.buffer)
+            }
             _ => {}
         }
         told

@@ -1,5 +1,6 @@
 -- Hex text: what is written reads back, what each turn of the reader keeps, and how a text grows by a byte.
 use Rattle.std.proofs.Common.{◌≡◌, ℕ, zero, suc, ◌+◌, ◌*◌, ◌/◌, ◌%◌, ◌<◌, ◌≤◌, true, false, List, [], ◌∷◌, ◌++◌, length, get_or, take, drop, is_some, IfSome, Some, None, IsUtf8, Option, sym, refl, ap, ◌∙◌, append_assoc, append-nil, arith, rules}
+use lib.Utf8.{encode}
 use Rattle.std.proofs.lemmas.List.{drop_more, take_more}
 use Rattle.std.proofs.lemmas.Bool.{cond-true, cond-false}
 use Rattle.std.proofs.lemmas.Bool.Decides.{nat_tests}
@@ -111,7 +112,8 @@ pub written-first : (bs : List ℕ) (i : ℕ) → i ≤ 0 → i < length bs → 
 written-first bs zero none within = ap written (take_more bs 0 0 within)
 written-first bs (suc i) none within = absurd (omega arith)
 
-pub written-more : (bs : List ℕ) (i : ℕ) → 0 < i → i < length bs → written (take (i + 1) bs) ≡ (written (take i bs) ++ 32 ∷ []) ++ pair (get_or bs i 0)
+pub written-more : (bs : List ℕ) (i : ℕ) → 0 < i → i < length bs → written (take (i + 1) bs) ≡ (written (take i bs) ++ encode 32) ++ pair (get_or bs i 0)
+unfolding encode
 written-more bs i some within =
     ap written (take_more bs i 0 within) ∙ written-push (take i bs) (get_or bs i 0)
     ∙ ap (λ l. written (take i bs) ++ (l ++ pair (get_or bs i 0))) (gap-take bs i some within)

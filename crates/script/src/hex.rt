@@ -47,10 +47,7 @@ pub fn decode(heap: Global, text: &str) -> Result<Vec<u8>, HexFault>
             }
             word = i + 1;
         } else {
-            // the proof goes by the case, which `ok_or` and `?` would hide in two steps
-            let Some(low) = digit_value(*c) else {
-                return Err(HexFault::NotHex(word));
-            };
+            let low = digit_value(*c).ok_or(HexFault::NotHex(word))?;
             high = match high {
                 None => Some(low),
                 Some(first) => {

@@ -96,6 +96,7 @@ fn example(name: Name) -> &'static str {
     }
 }
 
+// By hand: a derive for errors is another crate's, and this one sees the library alone.
 impl<'a> fmt::Display for LineFault<'a> {
     fn fmt<W: fmt::Write>(&self, f: &mut fmt::Formatter<W>) -> fmt::Result {
         match *self {
@@ -141,6 +142,7 @@ impl<'a> TryFrom<&'a str> for Name {
 }
 
 // The number that a word of decimal digits stands for; `parse` alone would take a sign.
+#[tactic(auto, using(crate::proofs::Told::NUMBERS))]
 fn number_of(word: &str) -> Option<usize>
     ensures { result ≡ number word.now }
 {
@@ -180,16 +182,14 @@ fn end_of<'a>(text: &'a str) -> Result<(), LineFault<'a>>
 }
 
 // The bytes of the words of hex that follow.
-// A match and no `map_err`, whose closure would have to say again where a word may begin.
 fn bytes_of<'a>(heap: Global, text: &'a str) -> Result<Vec<u8>, LineFault<'a>>
     ensures { MatchResult result (λ v. read text.now ≡ bytes_of v.items) (λ e. (f : List ℕ → Saying) → Says (on_reading (read text.now) f) (Err e)) }
 {
-    match decode(heap, text) {
-        Ok(bytes) => Ok(bytes),
-        Err(HexFault::NotHex(place)) => Err(LineFault::NotHex(word_at(text, place))),
-        Err(HexFault::Odd(place)) => Err(LineFault::OddDigits(word_at(text, place))),
-        Err(HexFault::Memory) => Err(LineFault::Memory),
-    }
+    decode(heap, text).map_err(|fault| match fault {
+        HexFault::NotHex(place) => LineFault::NotHex(word_at(text, place)),
+        HexFault::Odd(place) => LineFault::OddDigits(word_at(text, place)),
+        HexFault::Memory => LineFault::Memory,
+    })
 }
 
 // `picture` or `picture new`
@@ -251,7 +251,9 @@ fn unit_of<'a>(heap: Global, text: &'a str) -> Result<UnitBytes, LineFault<'a>>
     }
 }
 
-// The call of a name with the words that follow it. Each call takes its words in a way of its own, so no table holds them.
+// The call of a name with the words that follow it. Ten names take their words in six ways, and hand back a line of their
+// own each: a `match`, and no table, which would hold boxed functions.
+#[tactic(auto, using(crate::proofs::Told::UNITS))]
 fn call<'a>(heap: Global, word: &'a str, rest: &'a str) -> Result<Line, LineFault<'a>>
     ensures { Says (call_of (named word.now) word.now rest.now) result }
 {

@@ -15,6 +15,7 @@ fn front_len(text: &[u8]) -> usize
 }
 
 // The first word, empty where there is none, and what stands behind it.
+#[tactic(auto, using(crate::proofs::Cuts::CUTS))]
 pub fn first_word(text: &str) -> (&str, &str)
     ensures first { result.0.now ≡ word text.now }
     ensures second { result.1.now ≡ behind text.now }

@@ -3,8 +3,13 @@ use Rattle.std.specs.Prelude.{ℕ, ◌+◌, false, cond, List, [], ◌∷◌, le
 use Rattle.layouts.specs.Frames.{Message, framed, under}
 use Rattle.units.specs.Units.{and_then}
 use Rattle.units.specs.Writings.{put, framed_length, fits}
+use Rattle.kinds.specs.declared.kind.Kind.{Ghosts}
 use Rattle.book.specs.Models.{Models, empty, first, both, Meanings}
 use Rattle.sets.specs.declared.parts.Size.{Size}
+
+-- the payloads of the part of a kind
+abbrev pub part : {K : Type 0} (kind : Ghosts K) → K → List (List ℕ)
+part kind k = kind.model.part (kind.meaning k)
 
 -- a size with a message of a type and a length more; none past 65,535
 abbrev pub more : Size → ℕ → ℕ → Option Size

@@ -8,7 +8,7 @@ ghost use Rattle.sets.specs.Parts.{sizes, writes};
 use crate::parts::{Size, put_part, with_part};
 use kinds::fault::{LookFault, OfferFault, Offered};
 use kinds::kind::Kind;
-use records::fault::PayloadFault;
+use records::record::check_length;
 
 // A list of kinds, with what is in force of each.
 pub trait Kinds: Sized + Drop {
@@ -30,12 +30,14 @@ pub trait Kinds: Sized + Drop {
     fn has(kind: u32) -> bool
         ensures { result ≡ has models kind };
 
-    // Offers a payload to the kind of its type; two parameters, since nothing holds of them together.
+    // Offers a payload to the kind of its type. They stay two parameters: the type picks the kind, which is handed the
+    // payload alone, so that a struct of both would be made and taken apart for one call.
     fn offer(&mut self, kind: u32, payload: &[u8]) -> Result<Offered, OfferFault>
         ensures answer { result ≡ told (offers models (meanings self.old) kind payload.now) }
         ensures after { meanings self.new ≡ after (meanings self.old) (offers models (meanings self.old) kind payload.now) };
 
-    // Copies payload n of the kind of a type to the buffer's front, and answers its length.
+    // Copies payload n of the kind of a type to the buffer's front, and answers its length. Parameters as in `offer`: the
+    // type picks the kind, which is asked for the rest.
     fn look(&self, kind: u32, n: usize, buffer: &mut [u8]) -> Result<usize, LookFault>
         ensures answer { result ≡ (looked (part_of models (meanings self.now) kind) n buffer.old).0 }
         ensures bytes { buffer.new ≡ (looked (part_of models (meanings self.now) kind) n buffer.old).1 };
@@ -44,7 +46,9 @@ pub trait Kinds: Sized + Drop {
     fn with_parts(&self, size: Size) -> Option<Size>
         ensures { result ≡ sizes models (meanings self.now) size };
 
-    // Writes all kinds' parts, framed, from a place on, and answers the place behind them.
+    // Writes all kinds' parts, framed, from a place on, and answers the place behind them. Buffer and place stay two
+    // parameters, here and in `parts`: a message that finds no room is answered by `None`, and there is no place then. A
+    // struct of both would still hold one, which each contract would have to tell.
     fn put_parts(&self, buffer: &mut [u8], at: usize) -> Option<usize>
         ensures answer { result ≡ (writes models (meanings self.now) at buffer.old).0 }
         ensures bytes { buffer.new ≡ (writes models (meanings self.now) at buffer.old).1 };
@@ -96,8 +100,8 @@ impl Kinds for End {
     ghost sound = { λ s. tt };
 }
 
-// One kind, and a list of others after it. Apart from `Both`, since a kind is asked for its type where a list is asked for
-// whether it has one: a list of one kind, to stand on the left of `Both`, would say all of this again.
+// One kind, and a list of others after it. `With` and `End` are public, and sets are written with them: a list of one kind
+// in their place, to stand on the left of `Both`, would be shorter, and take them from whoever wrote a set.
 #[derive(Drop)]
 pub struct With<K, R> {
     first: K,
@@ -122,10 +126,7 @@ impl<K: Kind, R: Kinds> Kinds for With<K, R> {
     }
 
     fn has(kind: u32) -> bool {
-        if kind == K::TYPE {
-            return true;
-        }
-        R::has(kind)
+        kind == K::TYPE || R::has(kind)
     }
 
     fn offer(&mut self, kind: u32, payload: &[u8]) -> Result<Offered, OfferFault> {
@@ -182,10 +183,7 @@ impl<P: Kinds, Q: Kinds> Kinds for Both<P, Q> {
     }
 
     fn has(kind: u32) -> bool {
-        if P::has(kind) {
-            return true;
-        }
-        Q::has(kind)
+        P::has(kind) || Q::has(kind)
     }
 
     fn offer(&mut self, kind: u32, payload: &[u8]) -> Result<Offered, OfferFault> {
@@ -217,8 +215,8 @@ impl<P: Kinds, Q: Kinds> Kinds for Both<P, Q> {
     ghost sound = { λ s. (P.Kinds.sound s.left, Q.Kinds.sound s.right) };
 }
 
-// Offers a message to the kind of its type. A type outside the list is passed, and then a payload of more than 65,535
-// bytes refused, before any kind is asked: a kind may read a part of a payload only.
+// Offers a message to the kind of its type; two parameters, as in `offer`. A type outside the list is passed, and
+// then a payload of more than 65,535 bytes refused, before any kind is asked: a kind may read a part of a payload only.
 pub fn offer_message<R: Kinds>(
     kinds: &mut R,
     kind: u32,
@@ -230,8 +228,6 @@ pub fn offer_message<R: Kinds>(
     if !R::has(kind) {
         return Ok(Offered::Passed);
     }
-    if payload.len() > 65_535 {
-        return Err(OfferFault::Payload(PayloadFault::TooLong));
-    }
+    check_length(payload)?;
     kinds.offer(kind, payload)
 }

@@ -65,7 +65,8 @@ mod tests {
         cues_of::<Shipped>(&rt)
     }
 
-    // What a message answers: the number and the place of its refusal, as they are told, or 0 and 0 where it is granted.
+    // What a message answers: the number and the place of its refusal, or 0 where it is granted and 255 where it is passed;
+    // numbers, as the tables of the documents have them.
     fn told<S: Set>(visit: &mut Visit<S>, kind: u32, payload: &[u8]) -> (u8, usize) {
         match visit.message(kind, payload) {
             Ok(Offered::Granted) => (0, 0),
@@ -74,7 +75,7 @@ mod tests {
         }
     }
 
-    // The number of a refusal, or 0 where there is none.
+    // The number of a refusal, or 0 where there is none; a number, as the tables of the documents have them.
     fn number(answer: Result<usize, Refusal>) -> u8 {
         match answer {
             Ok(_) => 0,
@@ -121,13 +122,11 @@ mod tests {
         assert_eq!(rt; number(visit.look(47, 0, &mut buffer)), 0, "48 00 09 stays");
         assert_eq!(rt; number(visit.look(144, 0, &mut buffer)), 0);
         assert_eq!(rt; buffer, [0x03, 0xE8, 0x00, 0xC8]);
-        match Option::<DisplayOrientation>::read(&[0x48, 0x00, 0x14])? {
-            Some(orientation) => {
-                assert_eq!(rt; orientation.rotation, 16384);
-                Ok(())
-            },
-            None => Err(Fail::new("48 00 14 is no cancel")),
-        }
+        let Some(orientation) = Option::<DisplayOrientation>::read(&[0x48, 0x00, 0x14])? else {
+            return Err(Fail::new("48 00 14 is no cancel"));
+        };
+        assert_eq!(rt; orientation.rotation, 16384);
+        Ok(())
     }
 
     fn outside_and_short_of<S: Set>(rt: &impl Abort) -> Result<(), Fail> {
@@ -148,7 +147,8 @@ mod tests {
         Ok(())
     }
 
-    // What a unit of clean bytes is refused by, with its place; or 0 and 0.
+    // The number of the refusal of a unit of clean bytes, with its place, or 0 and 0; numbers, as the tables of the
+    // documents have them.
     fn load<S: Set>(visit: &mut Visit<S>, bytes: &[u8], scratch: &mut [u8]) -> (u8, usize) {
         match visit.unit(&mut Clean::new(bytes), scratch) {
             Ok(_) => (0, 0),
@@ -175,20 +175,19 @@ mod tests {
         let mut again = [0; 4];
         assert_eq!(rt; saved(&other, &mut again), (4, 1));
         assert_eq!(rt; again, unit);
-        match Visit::<S>::resume(&[0x97, 1, 0x40, 0x80], true, &mut scratch) {
-            Ok(_) => Err(Fail::new("a refused message refuses the visit")),
-            Err(refusal) => {
-                assert_eq!(rt; refusal.number(), 9);
-                Ok(())
-            },
-        }
+        let Err(refusal) = Visit::<S>::resume(&[0x97, 1, 0x40, 0x80], true, &mut scratch) else {
+            return Err(Fail::new("a refused message refuses the visit"));
+        };
+        assert_eq!(rt; refusal.number(), 9);
+        Ok(())
     }
 
-    // The length and the messages of a catch-up, or its refusal and 0.
+    // The length and the messages of a catch-up, or the number of its refusal and 0; numbers, as the tables of the documents
+    // have them.
     fn saved<S: Set>(visit: &Visit<S>, buffer: &mut [u8]) -> (usize, usize) {
         match visit.catch_up(buffer) {
             Ok(told) => (told.len, told.messages),
-            Err(refusal) => (refusal.number() as usize, 0),
+            Err(refusal) => (usize::from(refusal.number()), 0),
         }
     }
 }

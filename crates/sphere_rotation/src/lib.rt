@@ -24,26 +24,39 @@ pub struct SphereRotation {
     ghost turns: { Turn yaw × (Tilt pitch × Turn roll) },
 }
 
-// An angle in degrees, to hundredths towards 0.
-fn degrees<W: fmt::Write>(f: &mut fmt::Formatter<W>, angle: i32) -> fmt::Result {
-    let steps = angle.unsigned_abs() as u64;
-    let whole = steps / 65_536;
-    let rest = steps % 65_536 * 100 / 65_536;
-    if angle < 0 {
-        write!(f, "-")?;
+// A yaw or a roll is from -180 degrees to below 180 degrees.
+const LEAST_TURN: i32 = -180 * 65_536;
+
+const GREATEST_TURN: i32 = 180 * 65_536 - 1;
+
+// A pitch is from -90 to 90 degrees.
+const LEAST_TILT: i32 = -90 * 65_536;
+
+const GREATEST_TILT: i32 = 90 * 65_536;
+
+// An angle, told in degrees, to hundredths towards 0.
+#[derive(Clone, Copy)]
+struct Degrees(i32);
+
+impl fmt::Display for Degrees {
+    fn fmt<W: fmt::Write>(&self, f: &mut fmt::Formatter<W>) -> fmt::Result {
+        let sign = if self.0 < 0 { "-" } else { "" };
+        let steps = self.0.unsigned_abs();
+        let whole = steps / 65_536;
+        let rest = steps % 65_536 * 100 / 65_536;
+        write!(f, "{sign}{whole}.{rest:02} degrees")
     }
-    write!(f, "{whole}.{rest:02} degrees")
 }
 
 impl fmt::Display for SphereRotation {
     fn fmt<W: fmt::Write>(&self, f: &mut fmt::Formatter<W>) -> fmt::Result {
-        write!(f, "sphere rotation: yaw ")?;
-        degrees(f, self.yaw)?;
-        write!(f, ", pitch ")?;
-        degrees(f, self.pitch)?;
-        write!(f, ", roll ")?;
-        degrees(f, self.roll)?;
-        let persistence = self.persistence as u8;
-        write!(f, ", persistence {persistence}")
+        let yaw = Degrees(self.yaw);
+        let pitch = Degrees(self.pitch);
+        let roll = Degrees(self.roll);
+        let persistence = u8::from(self.persistence);
+        write!(
+            f,
+            "sphere rotation: yaw {yaw}, pitch {pitch}, roll {roll}, persistence {persistence}"
+        )
     }
 }

@@ -1,7 +1,9 @@
 // Making a sphere rotation.
+ghost use Rattle.std.specs.Prelude.{◌↔◌, IsTrue};
+ghost use Rattle.sphere_rotation.specs.Angles.{Turn, Tilt};
 ghost use Rattle.sphere_rotation.specs.SphereRotation.{MakesRotation};
 
-use crate::SphereRotation;
+use crate::{GREATEST_TILT, GREATEST_TURN, LEAST_TILT, LEAST_TURN, SphereRotation};
 use layouts::fault::FieldFault;
 
 impl SphereRotation {
@@ -14,13 +16,7 @@ impl SphereRotation {
     ) -> Result<SphereRotation, FieldFault>
         ensures { MakesRotation persistence yaw pitch roll result }
     {
-        if yaw < -11_796_480 || yaw > 11_796_479 {
-            return Err(FieldFault::OutOfRange(0));
-        }
-        if pitch < -5_898_240 || pitch > 5_898_240 {
-            return Err(FieldFault::OutOfRange(0));
-        }
-        if roll < -11_796_480 || roll > 11_796_479 {
+        if !is_turn(yaw) || !is_tilt(pitch) || !is_turn(roll) {
             return Err(FieldFault::OutOfRange(0));
         }
         Ok(SphereRotation {
@@ -30,4 +26,20 @@ impl SphereRotation {
             roll,
         })
     }
+}
+
+// Each range has a function of its own, that says a definition: one for both would take the two constants at each of three calls. Without the two, three ranges in one `if` want an answer by hand.
+
+// Whether an angle is in the range of a yaw or a roll.
+fn is_turn(angle: i32) -> bool
+    ensures { IsTrue result ↔ Turn angle }
+{
+    (LEAST_TURN..=GREATEST_TURN).contains(&angle)
+}
+
+// Whether an angle is in the range of a pitch.
+fn is_tilt(angle: i32) -> bool
+    ensures { IsTrue result ↔ Tilt angle }
+{
+    (LEAST_TILT..=GREATEST_TILT).contains(&angle)
 }

@@ -6,7 +6,7 @@ ghost use Rattle.records.proofs.Same.{bit-same};
 ghost use Rattle.sphere_rotation.specs.RotationsLemmas.{turn-same, tilt-same, rotation-same};
 ghost use Rattle.sphere_rotation.specs.Rulings.{content-takes};
 
-use crate::SphereRotation;
+use crate::{GREATEST_TILT, GREATEST_TURN, LEAST_TILT, LEAST_TURN, SphereRotation};
 use fields::reader::Reader;
 use fields::writer::Writer;
 use layouts::fault::FieldFault;
@@ -28,9 +28,9 @@ impl Body for SphereRotation {
     fn decode(mut reader: Reader) -> Result<SphereRotation, FieldFault> {
         let persistence = reader.flag()?;
         reader.bits(6)?;
-        let yaw = reader.signed_within(-11_796_480, 11_796_479)?;
-        let pitch = reader.signed_within(-5_898_240, 5_898_240)?;
-        let roll = reader.signed_within(-11_796_480, 11_796_479)?;
+        let yaw = reader.signed_within(LEAST_TURN, GREATEST_TURN)?;
+        let pitch = reader.signed_within(LEAST_TILT, GREATEST_TILT)?;
+        let roll = reader.signed_within(LEAST_TURN, GREATEST_TURN)?;
         reader.close()?;
         Ok(SphereRotation {
             persistence,
@@ -40,6 +40,7 @@ impl Body for SphereRotation {
         })
     }
 
+    #[tactic(auto, using(crate::specs::Rulings::rotation_proper))]
     fn encode(&self, writer: &mut Writer) {
         writer.flag(self.persistence);
         writer.bits(6, 0);

@@ -1,5 +1,6 @@
 -- The messages of bytes, one after the other.
-use Rattle.std.proofs.Common.{◌≡◌, ℕ, zero, suc, ◌+◌, ◌<◌, ◌≤◌, Bool, true, false, cond, ltb, leb, List, [], ◌∷◌, length, take, drop, IfSome, Some, None, Option, sym, refl, ap, ◌∙◌, subst, arith, length-drop}
+use Rattle.std.proofs.Common.{◌≡◌, ℕ, zero, suc, ◌+◌, ◌<◌, ◌≤◌, Bool, true, false, cond, ltb, leb, List, [], ◌∷◌, length, take, drop, IfSome, Some, None, Option, sym, refl, ap, ◌∙◌, arith, length-drop}
+use Rattle.std.proofs.lemmas.Option.{MatchOption-at_some}
 use Rattle.layouts.specs.Frames.{Message, framed}
 use Rattle.units.specs.Units.{and_then, counted, cut, message, first_message, parts_in, heard, unheard, placed}
 
@@ -11,9 +12,6 @@ found-then P Q (Some a) f h k = k a h
 pub found-cond : {A : Type 0} (P : A → Type 0) (t : Bool) (x y : Option A) → (t ≡ true → IfSome x P) → (t ≡ false → IfSome y P) → IfSome (cond t x y) P
 found-cond P true x y h k = h refl
 found-cond P false x y h k = k refl
-
-pub found_some : {A : Type 0} (P : A → Type 0) (o : Option A) (a : A) → o ≡ Some a → IfSome o P → P a
-found_some P o a e h = let Q : Option _ → Type 0 = λ x. IfSome x P in subst Q e h
 
 -- less is left
 counted-less : (n sum : ℕ) (bs : List ℕ) → length bs ≤ n → IfSome (counted sum bs) (λ r. length r.1 < n)
@@ -51,7 +49,7 @@ enough (suc i) zero [] h k = refl
 enough (suc i) zero (b ∷ bs) h k = absurd (omega arith)
 enough (suc i) (suc j) bs h k =
     first_message-same (message bs) bs (parts_in i) (parts_in j) (λ m e.
-    let s : length m.1 < length bs = found_some (λ r. length r.1 < length bs) (message bs) m e (message-less bs) in
+    let s : length m.1 < length bs = MatchOption-at_some (Unit {0}) (λ r. length r.1 < length bs) m e (message-less bs) in
     enough i j m.1 (omega arith) (omega arith))
 
 parts_more : (n : ℕ) (bs rest : List ℕ) (m : Message) → length bs ≡ n → length rest < length bs → message bs ≡ Some (m, rest) → parts_in n bs ≡ (m ∷ heard rest, unheard rest)
@@ -67,7 +65,7 @@ parts_none zero bs e = refl
 parts_none (suc n) bs e = ap (λ (o : Option (Message × List ℕ)). first_message o bs (parts_in n)) e
 
 shorter : (bs rest : List ℕ) (m : Message) → message bs ≡ Some (m, rest) → length rest < length bs
-shorter bs rest m e = found_some (λ r. length r.1 < length bs) (message bs) (m, rest) e (message-less bs)
+shorter bs rest m e = MatchOption-at_some (Unit {0}) (λ r. length r.1 < length bs) (m, rest) e (message-less bs)
 
 -- the first message, and those behind it
 pub heard-more : (bs rest : List ℕ) (m : Message) → message bs ≡ Some (m, rest) → heard bs ≡ m ∷ heard rest
@@ -106,7 +104,7 @@ stops zero [] h = message-nil
 stops zero (b ∷ bs) h = absurd (omega arith)
 stops (suc n) bs h =
     first_message-stops (message bs) bs (parts_in n) refl (λ m e.
-    let s : length m.1 < length bs = found_some (λ r. length r.1 < length bs) (message bs) m e (message-less bs) in
+    let s : length m.1 < length bs = MatchOption-at_some (Unit {0}) (λ r. length r.1 < length bs) m e (message-less bs) in
     stops n m.1 (omega arith))
 
 pub unheard-stops : (bs : List ℕ) → message (unheard bs) ≡ None

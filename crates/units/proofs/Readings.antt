@@ -4,8 +4,8 @@ use Rattle.std.proofs.lemmas.List.{at_drop_more, drop-drop, length-take-le}
 use Rattle.std.proofs.lemmas.Bool.{cond-true, cond-false, le-leb, lt-leb, lt-ltb}
 use Rattle.layouts.specs.Frames.{count, framed}
 use Rattle.layouts.proofs.Framed.{length-count, length-framed}
-use Rattle.units.specs.Units.{counted, cut, message}
-use Rattle.units.proofs.Parts.{placed-none}
+use Rattle.units.specs.Units.{counted, cut, message, heard, placed}
+use Rattle.units.proofs.Parts.{placed-none, placed-more}
 
 -- a turn of a count, at the byte of a place
 module _ (bs : List ℕ) (sum next b : ℕ) (within : next < length bs) (is : b ≡ get_or bs next 0) where
@@ -62,8 +62,15 @@ found-end bs at next start t n e f h k =
     length-framed t (take n (drop start bs)) ∙ (rw p (omega (arith, length-count t, length-count n))) in
     rw i (omega (arith, g))
 
--- no message at a place
-pub ruleset none_here = (message-no-type, message-no-size, message-short, placed-none, length-drop)
+-- and those behind it
+pub messages-found : (bs : List ℕ) (at next start t n : ℕ) → counted 0 (drop at bs) ≡ Some (t, drop next bs) → next ≡ at + length (count t) →
+    counted 0 (drop next bs) ≡ Some (n, drop start bs) → start ≡ next + length (count n) → start ≤ length bs → n ≤ length bs - start →
+    placed at (heard (drop at bs)) ≡ (at, (t, take (start + n - start) (drop start bs))) ∷ placed (start + n) (heard (drop (start + n) bs))
+messages-found bs at next start t n e f g h k l =
+    placed-more bs _ at (start + n) t (message-found bs at next start t n e g k l) (found-end bs at next start t n f h k l)
+
+-- a message at a place, or none
+pub ruleset message_here = (message-no-type, message-no-size, message-short, placed-none, length-drop, message-found, messages-found, length-count)
 
 -- a count at a place
 pub ruleset counted_here = (counted-end, length-count)

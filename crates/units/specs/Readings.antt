@@ -1,8 +1,7 @@
 -- What the code finds at a place of a slice, and what its reader has to hand out.
-use Rattle.std.specs.Prelude.{◌≡◌, ℕ, ◌+◌, ◌-◌, ◌<◌, ◌≤◌, List, [], ◌∷◌, length, take, drop, Some, None, Option, MatchOption}
+use Rattle.std.specs.Prelude.{◌≡◌, ℕ, ◌+◌, ◌<◌, ◌≤◌, List, [], ◌∷◌, length, drop, Some, None, Option, MatchOption}
 use Rattle.layouts.specs.Frames.{Message as Framed, count}
 use Rattle.units.specs.declared.frame.Count.{Count}
-use Rattle.units.specs.declared.frame.Found.{Found}
 use Rattle.units.specs.declared.frame.Message.{Message}
 use Rattle.units.specs.declared.frame.Messages.{Messages}
 use Rattle.units.specs.Units.{counted, message, heard, placed}
@@ -16,21 +15,21 @@ Counts (Some n) bs at = (counted 0 (drop at bs) ≡ Some (n.value, drop n.next b
 abbrev pub messages_from : List ℕ → ℕ → List (ℕ × Framed)
 messages_from bs at = placed at (heard (drop at bs))
 
--- a message from a place on, whose payload goes from `start` to `end`
-abbrev pub Finds : Option Found → List ℕ → ℕ → Type 0
+-- a message that was handed out
+abbrev pub handed_out : Message → ℕ × Framed
+handed_out m = (m.place, (m.kind, m.payload.now))
+
+-- a message from a place on, which ends before `end`
+abbrev pub Finds : Option (Message × ℕ) → List ℕ → ℕ → Type 0
 Finds None bs at = (message (drop at bs) ≡ None) × (messages_from bs at ≡ [])
-Finds (Some f) bs at =
-    (message (drop at bs) ≡ Some ((f.kind, take (f.end - f.start) (drop f.start bs)), drop f.end bs))
-    × (messages_from bs at ≡ (at, (f.kind, take (f.end - f.start) (drop f.start bs))) ∷ messages_from bs f.end)
-    × (at < f.end) × (f.start ≤ f.end) × (f.end ≤ length bs)
+Finds (Some (m, end)) bs at =
+    (message (drop at bs) ≡ Some ((m.kind, m.payload.now), drop end bs))
+    × (messages_from bs at ≡ handed_out m ∷ messages_from bs end)
+    × (at < end) × (end ≤ length bs)
 
 -- the messages that a reader has still to hand out, with their places
 abbrev pub coming : Messages → List (ℕ × Framed)
 coming r = messages_from r.body.now r.at
-
--- a message that was handed out
-abbrev pub handed_out : Message → ℕ × Framed
-handed_out m = (m.place, (m.kind, m.payload.now))
 
 -- a reader hands out the first message that is to come; with none to come, none does
 abbrev pub HandsOut : Messages → Option Message → Messages → Type 0

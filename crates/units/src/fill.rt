@@ -16,7 +16,8 @@ fn room_of(scratch: &[u8]) -> usize
 }
 
 // Takes the bytes of a source to its end into the scratch's front, and answers how many they are. Whether a fault follows
-// stands apart in each contract: a source may be of any type, so that no field of one can hold it.
+// stands apart in each contract: a source may be of any type, so that no field of one can hold it. Source and scratch are
+// lent apart: one scratch serves many sources, and a caller looks into it afterwards.
 #[tactic(auto, using(crate::proofs::Fills::fill_ends))]
 pub fn fill<X: Source>(source: &mut X, scratch: &mut [u8]) -> Result<usize, UnitFault>
     ensures answer { result ≡ filling (X.Source.coming source.old) (X.Source.faulty source.old) scratch.old }

@@ -10,13 +10,14 @@ use crate::fault::UnitFault;
 // The byte behind the last message.
 pub const LAST: u8 = 0x80;
 
-// A type or a size at most.
+// A type or a size at most. It is the limit of a type too, and `fields`, whose `LONGEST` is the limit of a payload, is not
+// below this crate.
 pub const GREATEST: u32 = 65_535;
 
 // A message: its type, the place of its first byte, and its payload.
 #[derive(Clone, Copy)]
 pub struct Message<'a> {
-    // any number may come, so it is no enum
+    // any number may come, and most are of no kind of a set, so it is no enum
     pub kind: u32,
     pub place: usize,
     pub payload: &'a [u8],
@@ -38,14 +39,6 @@ struct Count {
     next: usize,
 }
 
-// A type, and from where to where its payload goes.
-#[derive(Clone, Copy)]
-struct Found {
-    kind: u32,
-    start: usize,
-    end: usize,
-}
-
 // The type or the size at a place.
 #[tactic(auto, using(crate::proofs::Readings::counted_here))]
 fn count_at(bytes: &[u8], at: usize) -> Option<Count>
@@ -53,7 +46,7 @@ fn count_at(bytes: &[u8], at: usize) -> Option<Count>
 {
     let mut value: u32 = 0;
     for (i, byte) in bytes.get(at..)?.iter().enumerate() {
-        value += *byte as u32;
+        value += u32::from(*byte);
         if value > GREATEST {
             return None;
         }
@@ -65,23 +58,20 @@ fn count_at(bytes: &[u8], at: usize) -> Option<Count>
     None
 }
 
-// The message at a place.
-#[tactic(auto, using(crate::proofs::Readings::none_here))]
-fn message_at(bytes: &[u8], at: usize) -> Option<Found>
+// The message at a place, and the place behind it.
+#[tactic(auto, using(crate::proofs::Readings::message_here))]
+fn message_at(bytes: &[u8], at: usize) -> Option<(Message<'_>, usize)>
     ensures { Finds result bytes.now at }
 {
     let kind = count_at(bytes, at)?;
     let size = count_at(bytes, kind.next)?;
-    let start = size.next;
-    let len = size.value as usize;
-    if len > bytes.len() - start {
-        return None;
-    }
-    Some(Found {
+    let end = size.next + size.value as usize;
+    let message = Message {
         kind: kind.value,
-        start,
-        end: start + len,
-    })
+        place: at,
+        payload: bytes.get(size.next..end)?,
+    };
+    Some((message, end))
 }
 
 // Where the messages end: the place of the first that does not fit, or the number of bytes.
@@ -91,8 +81,8 @@ fn messages_end(body: &[u8]) -> usize
 {
     let mut at = 0;
     // `Messages` hands out no ends, and by `successors` it would be a chain with a closure and a case for none
-    while let Some(found) = message_at(body, at) {
-        at = found.end;
+    while let Some((_, next)) = message_at(body, at) {
+        at = next;
     }
     at
 }
@@ -125,16 +115,8 @@ impl<'a> Iterator for Messages<'a> {
     ghost remaining = { λ s. at_most (length s.body.now - s.at) };
 
     fn next(&mut self) -> Option<Message<'a>> {
-        let body = self.body;
-        let place = self.at;
-        let found = message_at(body, place)?;
-        let start = found.start;
-        let end = found.end;
+        let (message, end) = message_at(self.body, self.at)?;
         self.at = end;
-        Some(Message {
-            kind: found.kind,
-            place,
-            payload: &body[start..end],
-        })
+        Some(message)
     }
 }

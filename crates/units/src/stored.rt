@@ -6,8 +6,10 @@ ghost use Rattle.units.specs.Stores.{stored_bytes, stored_are_bytes};
 use crate::source::{Source, SourceFault};
 use std::vec::IntoIter;
 
-// Clean bytes that the source holds, which never fault. No one type with `Clean`, which can be copied: each takes its
-// bytes by one call of the library, and a trait over both would be longer than that.
+// Clean bytes that the source holds, which never fault. One type with `Clean` was tried. Over any iterator the check asks
+// that a call may be made, and for the list of the bytes to come, which an iterator does not have. Over a trait that has
+// the list it proves, but the trait with its two impls is as long as what it replaces, and `new` says less of a slice: not
+// that its bytes come as they are.
 #[derive(Drop)]
 pub struct Stored {
     rest: IntoIter<u8>,

@@ -32,8 +32,9 @@ fn has_room(kind: u32, size: usize, len: usize, at: usize) -> bool
     framed_len(kind, size).is_some_and(|framed| at <= len && framed <= len - at)
 }
 
-// The buffer and the place stay two parameters: with a struct of both, each contract would say besides that the buffer
-// is still the one that was lent.
+// In each of the six functions below the buffer and the place stay two parameters: a message that finds no room is
+// answered by `None`, and there is no place then. A struct of both would still hold one, which each contract would have to
+// tell.
 
 // Writes a type or a size from a place on, and answers the place behind it.
 #[tactic(auto, using(crate::proofs::Writings::count_writes))]
@@ -60,7 +61,8 @@ fn put_counts(kind: usize, size: usize, buffer: &mut [u8], at: usize) -> usize
     put_count(size, buffer, typed)
 }
 
-// Writes a type, a size and a payload, one after the other.
+// Writes a type, a size and a payload, one after the other. Type and payload stay two parameters: the type picks the kind,
+// which is handed the payload alone, so that a struct of both would be made and taken apart for one call.
 #[tactic(auto, using(crate::proofs::Writings::part_writes))]
 fn put_parts(kind: usize, payload: &[u8], buffer: &mut [u8], at: usize) -> usize
     requires { at + framed_length kind (length payload.now) ≤ length buffer.old }
@@ -86,6 +88,7 @@ pub fn put_head(kind: u32, size: usize, buffer: &mut [u8], at: usize) -> Option<
 }
 
 // Writes a message from a place on, and answers the place behind it; nothing where it does not fit, as in `put_head`.
+// Type and payload are two parameters, as in `put_parts`.
 pub fn put_message(kind: u32, payload: &[u8], buffer: &mut [u8], at: usize) -> Option<usize>
     ensures answer { result ≡ (if fits kind (length payload.now) at (length buffer.old) then Wrote (at + length (framed (kind, payload.now))) else Nothing) }
     ensures bytes { buffer.new ≡ (if fits kind (length payload.now) at (length buffer.old) then put at (framed (kind, payload.now)) buffer.old else buffer.old) }
@@ -101,6 +104,7 @@ pub fn put_last(buffer: &mut [u8], at: usize) -> Option<usize>
     ensures answer { result ≡ (if nat_lt at (length buffer.old) then Wrote (at + 1) else Nothing) }
     ensures bytes { buffer.new ≡ (if nat_lt at (length buffer.old) then slice_set buffer.old at 128 else buffer.old) }
 {
+    // by `get_mut` and `?` the check asks what the buffer holds then, on both ways out
     if at >= buffer.len() {
         return None;
     }

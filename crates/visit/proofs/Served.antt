@@ -34,7 +34,7 @@ left-more cs cs0 i x h e r =
 pub left_after : {C : Type 0} (cs cs0 : List C) (i : ℕ) (y : C) → drop i cs ≡ drop i cs0 → drop (i + 1) (set cs i y) ≡ drop (i + 1) cs0
 left_after cs cs0 i y e = drop-set-lt (i + 1) cs i y (omega arith) ∙ (sym (drop-drop 1 i cs) ∙ (ap (drop 1) e ∙ drop-drop 1 i cs0))
 
-pub left-same : {C : Type 0} (cs cs0 : List C) (i : ℕ) (x : C) → drop i cs ≡ drop i cs0 → get_or cs i x ≡ get_or cs0 i x
+left-same : {C : Type 0} (cs cs0 : List C) (i : ℕ) (x : C) → drop i cs ≡ drop i cs0 → get_or cs i x ≡ get_or cs0 i x
 left-same cs cs0 i x e =
     let z : i + 0 ≡ i = omega arith in
     ap (λ (n : ℕ). get_or cs n x) (sym z) ∙ (sym (get_or-drop i cs 0 x) ∙ (ap (λ l. get_or l 0 x) e ∙ (get_or-drop i cs0 0 x ∙ ap (λ (n : ℕ). get_or cs0 n x) z)))
@@ -73,11 +73,17 @@ fits-end : (as' : List Asked) (a : Asked) → Fits as' → Fit a → Fits (as' +
 fits-end [] a f g = (g, tt)
 fits-end (b ∷ as') a f g = (f.0, fits-end as' a f.1 g)
 
-pub fits_more : {C : Type 0} (ask : C → Asked) (cs : List C) (i : ℕ) (x : C) → i < length cs → x ≡ get_or cs i x → Fits (map ask (take i cs)) → Fit (ask x) → Fits (map ask (take (i + 1) cs))
+fits_more : {C : Type 0} (ask : C → Asked) (cs : List C) (i : ℕ) (x : C) → i < length cs → x ≡ get_or cs i x → Fits (map ask (take i cs)) → Fit (ask x) → Fits (map ask (take (i + 1) cs))
 fits_more ask cs i x h e f g =
     let p : map ask (take (i + 1) cs) ≡ map ask (take i cs) ++ (ask x ∷ []) = ap (map ask) (take_more cs i x h ∙ ap (λ y. take i cs ++ (y ∷ [])) (sym e)) ∙ map-append ask (take i cs) (x ∷ []) in
     let P : List Asked → Type 0 = λ l. Fits l in
     subst P (sym p) (fits-end (map ask (take i cs)) (ask x) f g)
 
+pub turn-fits : {C : Type 0} (ask : C → Asked) (cs cs0 : List C) (i : ℕ) (x : C) → i < length cs0 → drop i cs ≡ drop i cs0 → x ≡ get_or cs i x → Fits (map ask (take i cs0)) → Fit (ask x) → Fits (map ask (take (i + 1) cs0))
+turn-fits ask cs cs0 i x h e r f g = fits_more ask cs0 i x h (r ∙ left-same cs cs0 i x e) f g
+
 pub fits_all : {C : Type 0} (ask : C → Asked) (cs : List C) (i : ℕ) → length cs ≤ i → Fits (map ask (take i cs)) → Fits (map ask cs)
 fits_all ask cs i h f = let P : List _ → Type 0 = λ l. Fits (map ask l) in subst P (take_all i cs h) f
+
+-- what a turn keeps
+pub ruleset turns = (left_after, turn-book, turn-told, turn-fits)

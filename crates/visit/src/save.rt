@@ -2,9 +2,9 @@
 ghost use Rattle.std.specs.Prelude.{◌≡◌, ◌≤◌, length};
 ghost use Rattle.layouts.specs.Frames.{frames};
 ghost use Rattle.units.specs.Units.{AllLimited};
-ghost use Rattle.book.specs.Models.{messages};
 ghost use Rattle.book.specs.Book.{saved};
 ghost use Rattle.sets.specs.Parts.{writes, closed};
+ghost use Rattle.visit.specs.Visits.{messages_of};
 
 use book::answer::Saved;
 use book::fault::Refusal;
@@ -25,16 +25,14 @@ fn put_unit<R: Kinds>(kinds: &R, buffer: &mut [u8]) -> Option<usize>
 // in force it is no byte.
 #[tactic(auto, using(crate::proofs::Saved::saving))]
 pub fn save<R: Kinds>(kinds: &R, buffer: &mut [u8]) -> Result<Saved, Refusal>
-    requires limited { AllLimited (messages R.Kinds.models (R.Kinds.meanings kinds.now)) }
-    requires short { length (frames (messages R.Kinds.models (R.Kinds.meanings kinds.now))) ≤ 65535 }
-    ensures answer { result ≡ (saved (messages R.Kinds.models (R.Kinds.meanings kinds.now)) buffer.old).0 }
-    ensures bytes { buffer.new ≡ (saved (messages R.Kinds.models (R.Kinds.meanings kinds.now)) buffer.old).1 }
+    requires limited { AllLimited (messages_of R.Kinds kinds.now) }
+    requires short { length (frames (messages_of R.Kinds kinds.now)) ≤ 65535 }
+    ensures answer { result ≡ (saved (messages_of R.Kinds kinds.now) buffer.old).0 }
+    ensures bytes { buffer.new ≡ (saved (messages_of R.Kinds kinds.now) buffer.old).1 }
 {
-    let nothing = Size {
-        bytes: 0,
-        messages: 0,
-    };
-    let size = kinds.with_parts(nothing).ok_or(Refusal::ShortBuffer)?;
+    let size = kinds
+        .with_parts(Size::default())
+        .ok_or(Refusal::ShortBuffer)?;
     if size.messages == 0 {
         return Ok(Saved {
             len: 0,

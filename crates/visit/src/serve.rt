@@ -36,7 +36,8 @@ pub enum Call<X> {
     },
 }
 
-// A call, and the place for its answer.
+// A call, and the place for its answer. Any answer stands beside any call: a place in each case of `Call` would tell them
+// apart, and change what callers of `serve` hold.
 #[derive(Drop)]
 pub struct Request<X> {
     pub call: Call<X>,
@@ -44,7 +45,7 @@ pub struct Request<X> {
 }
 
 impl<S: Set> Visit<S> {
-    // Makes one call. Calls are data, since the law of whole runs is of lists of them.
+    // Makes one call. Calls are data, since the law of whole runs stands on `serve`, and is of lists of calls.
     #[tactic(auto, using(crate::proofs::Served::carried))]
     fn make<X: Source>(&mut self, call: &mut Call<X>) -> Answer
         ensures after { book S.List.Kinds self.new ≡ step S.List.Kinds.models (book S.List.Kinds self.old) (asked X.Source call.old) }
@@ -87,6 +88,7 @@ impl<S: Set> Visit<S> {
     }
 
     // Serves requests in turn: each holds its answer then. To serve one list and then another is to serve the one list.
+    #[tactic(auto, using(crate::proofs::Served::turns))]
     pub fn serve<X: Source>(&mut self, requests: &mut [Request<X>])
         ensures { Served S.List.Kinds.models (book S.List.Kinds self.old) (book S.List.Kinds self.new) (map (asks X.Source) requests.old) (map (holds X.Source) requests.new) }
     {

@@ -31,7 +31,7 @@ fn note(tally: Tally, place: usize, told: Result<Offered, OfferFault>) -> Tally
         },
         Err(fault) => Tally {
             refused: tally.refused + 1,
-            refusal: Some(tally.refusal.unwrap_or(MessageFault { place, fault })),
+            refusal: tally.refusal.or(Some(MessageFault { place, fault })),
             ..tally
         },
     }
@@ -43,12 +43,7 @@ fn offer_all<R: Kinds>(kinds: &mut R, messages: Messages) -> Tally
     ensures answer { result ≡ tallied R.Kinds.models (R.Kinds.meanings kinds.old) untold (coming messages.entry) }
     ensures after { R.Kinds.meanings kinds.new ≡ offered_all R.Kinds.models (R.Kinds.meanings kinds.old) (coming messages.entry) }
 {
-    let mut tally = Tally {
-        granted: 0,
-        refused: 0,
-        passed: 0,
-        refusal: None,
-    };
+    let mut tally = Tally::default();
     for message in messages {
         let told = offer_message(kinds, message.kind, message.payload);
         tally = note(tally, message.place, told);
@@ -66,7 +61,8 @@ fn offer_bytes<R: Kinds>(kinds: &mut R, bytes: &[u8]) -> Result<Tally, UnitFault
     Ok(offer_all(kinds, messages))
 }
 
-// Fills the scratch from the source, judges the frame, and offers every message in turn.
+// Fills the scratch from the source, judges the frame, and offers every message in turn. Whether a fault follows stands
+// apart, as in `fill`: a source may be of any type, so that no field of one can hold it.
 #[tactic(auto, using(crate::proofs::Brought::filling_brought))]
 pub fn offer_unit<R: Kinds, X: Source>(
     kinds: &mut R,

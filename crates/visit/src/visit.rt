@@ -49,7 +49,7 @@ impl<S: Set> Visit<S> {
         *self = Visit::new();
     }
 
-    // Offers one message to the kind of its type. Type and payload stay two parameters: nothing holds of them together.
+    // Offers one message to the kind of its type; two parameters, as in `offer` of `Kinds`.
     #[tactic(auto, using(crate::proofs::Served::carried))]
     pub fn message(&mut self, kind: u32, payload: &[u8]) -> Result<Offered, Refusal>
         ensures answer { result ≡ told_message S.List.Kinds.models (book S.List.Kinds self.old) kind payload.now }
@@ -70,7 +70,8 @@ impl<S: Set> Visit<S> {
     }
 
     // Takes a unit from a source through the scratch, and offers its messages in turn: how many were granted, refused
-    // and passed, and the first refusal. Before a picture it takes no byte.
+    // and passed, and the first refusal. Before a picture it takes no byte. Whether a fault follows stands apart, as in
+    // `fill`: a source may be of any type, so that no field of one can hold it.
     pub fn unit<X: Source>(&mut self, source: &mut X, scratch: &mut [u8]) -> Result<Tally, Refusal>
         ensures answer { result ≡ told_unit S.List.Kinds.models (book S.List.Kinds self.old) (X.Source.coming source.old) (X.Source.faulty source.old) scratch.old }
         ensures after { book S.List.Kinds self.new ≡ step S.List.Kinds.models (book S.List.Kinds self.old) (unit (X.Source.coming source.old) (X.Source.faulty source.old) scratch.old) }
@@ -78,8 +79,11 @@ impl<S: Set> Visit<S> {
         ensures coming { X.Source.coming source.new ≡ (if (book S.List.Kinds self.old).0 then unfilled (X.Source.coming source.old) scratch.old else X.Source.coming source.old) }
         ensures faulty { X.Source.faulty source.new ≡ X.Source.faulty source.old }
     {
-        let kinds = self.kinds.as_mut().ok_or(Refusal::NoPicture)?;
-        Ok(offer_unit(kinds, source, scratch)?)
+        Ok(offer_unit(
+            self.kinds.as_mut().ok_or(Refusal::NoPicture)?,
+            source,
+            scratch,
+        )?)
     }
 
     // Saves what is in force to the buffer's front, as a unit that brings it back: its length, and the number of its
@@ -106,7 +110,9 @@ impl<S: Set> Visit<S> {
     }
 
     // Begins one picture in a new visit, and loads saved bytes. Apart from `resume`, since `back` is of any list of calls
-    // and takes the theorem, which the search does not find.
+    // and takes the theorem, which the search does not find. It is a rule of the project that a public function has an edit
+    // that is refused for a fact in the code; where an answer by hand stands before it the edit is refused at the answer.
+    // So the answer stands here.
     fn begin(saved: &[u8], new_sequence: bool, scratch: &mut [u8]) -> Result<Visit<S>, Refusal>
         ensures visit { result_map_both (book S.List.Kinds) (λ f. f) result ≡ resumed S.List.Kinds.models saved.now new_sequence scratch.old }
         ensures bytes { scratch.new ≡ filled saved.now scratch.old }

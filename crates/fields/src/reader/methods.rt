@@ -4,9 +4,13 @@ ghost use Rattle.layouts.specs.Bits.{number, bits_of, zeros};
 ghost use Rattle.layouts.specs.Layout.{fixed, u, ue, within, at_most, between, closes, extends, from};
 ghost use Rattle.fields.specs.Reading.{left, Found, Reads, ReadsFlag, ReadsSigned};
 
+use crate::LONGEST;
+use crate::closing::closing_bits;
 use crate::reader::Reader;
 use layouts::fault::FieldFault;
 
+// A method finds a number, judges it and goes on: each has a judgement of its own, which its contract names, and with a
+// closure for it none would be shorter.
 impl<'a> Reader<'a> {
     // A reader at the first bit of a payload. It looks at the first 65,535 bytes: no payload has more.
     pub fn new(bytes: &'a [u8]) -> Reader<'a>
@@ -42,13 +46,14 @@ impl<'a> Reader<'a> {
     }
 
     // A signed number of 32 bits, from `low` to `high`.
+    #[tactic(auto, unfolding(layouts::specs::Layout::between))]
     pub fn signed_within(&mut self, low: i32, high: i32) -> Result<i32, FieldFault>
         ensures reads { ReadsSigned (within (u 32) (between low high)) self.old result self.new }
         ensures fits { IfOk result (λ x. (low ≤ℤ x) × (x ≤ℤ high)) }
     {
         let (bits, end) = self.find_bits(32)?;
         let value = bits.cast_signed();
-        if value < low || value > high {
+        if !(low..=high).contains(&value) {
             return Err(FieldFault::OutOfRange(self.at));
         }
         self.at = end;
@@ -78,10 +83,16 @@ impl<'a> Reader<'a> {
     }
 
     // The payload ends here: with a one and zeros up to the end of the byte, or where a byte ends.
+    #[tactic(auto, using(layouts::proofs::Closes::closing_left))]
     pub fn close(self) -> Result<(), FieldFault>
         ensures { result ≡ closes (left self.entry) }
     {
-        self.ends()
+        let room = self.bytes.len() * 8 - self.at;
+        let (width, value) = closing_bits(self.at);
+        if room != width as usize || self.window(self.at, width) != value {
+            return Err(FieldFault::Ending(self.at));
+        }
+        Ok(())
     }
 
     // The same after an extension bit, which lets anything follow where it is set.
@@ -93,7 +104,9 @@ impl<'a> Reader<'a> {
 }
 
 impl<'a> Reader<'a> {
-    // The number in the next `width` bits, and the bit behind them.
+    // The number in the next `width` bits, and the bit behind them; a pair here and below, and no struct, since each caller
+    // takes it apart at once.
+    #[tactic(auto, using(layouts::proofs::Steps::fixed_left))]
     pub(super) fn find_bits(&self, width: u32) -> Result<(u32, usize), FieldFault>
         ensures found { Found (fixed width) self.now.bytes.now self.now.at result }
         ensures fits { IfOk result (λ a. a.0 < 2 ^ width) }
@@ -109,6 +122,7 @@ impl<'a> Reader<'a> {
     }
 
     // The ue field that comes next, and the bit behind it.
+    #[tactic(auto, using(layouts::proofs::Golomb::ue_left))]
     fn find_ue(&self) -> Result<(u32, usize), FieldFault>
         ensures { Found ue self.now.bytes.now self.now.at result }
     {
@@ -125,6 +139,7 @@ impl<'a> Reader<'a> {
     }
 
     // How many zeros come next, up to 32.
+    #[tactic(auto, using(layouts::proofs::Golomb::ue_left))]
     fn zeros(&self) -> u32
         ensures { result ≡ min 32 (zeros (left self.now).rest) }
     {
@@ -133,30 +148,15 @@ impl<'a> Reader<'a> {
         head.leading_zeros() - (32 - ahead)
     }
 
-    // Whether the payload ends here.
-    fn ends(&self) -> Result<(), FieldFault>
-        ensures { result ≡ closes (left self.now) }
-    {
-        let room = self.bytes.len() * 8 - self.at;
-        let spare = (8 - self.at % 8) % 8;
-        if room != spare {
-            return Err(FieldFault::Ending(self.at));
-        }
-        let last = self.window(self.at, spare as u32);
-        if last != (1 << spare) >> 1 {
-            return Err(FieldFault::Ending(self.at));
-        }
-        Ok(())
-    }
-
     // The number in the `width` bits from the bit `at` on: the bytes that hold them are joined, and what stands after and before is cut off.
+    #[tactic(auto, using(crate::proofs::Windows::windows))]
     fn window(&self, at: usize, width: u32) -> u32
         requires { (at + width ≤ 8 * length self.now.bytes.now) × (width ≤ 32) }
         ensures { result ≡ number (take width (drop at (bits_of self.now.bytes.now))) }
     {
         let end = at + width as usize;
         let first = at / 8;
-        let last = (end + 7) / 8;
+        let last = end.div_ceil(8);
         let mut joined: u64 = 0;
         for b in &self.bytes[first..last] {
             joined = joined << 8 | u64::from(*b);
@@ -167,10 +167,11 @@ impl<'a> Reader<'a> {
 }
 
 // The first 65,535 bytes.
+#[tactic(auto, using(layouts::proofs::Steps::take_min))]
 fn limited(bytes: &[u8]) -> &[u8]
     ensures value { result.now ≡ take 65535 bytes.now }
     ensures bound { length result.now ≤ 65535 }
 {
-    let len = bytes.len().min(65_535);
-    &bytes[0..len]
+    let len = bytes.len().min(LONGEST);
+    &bytes[..len]
 }

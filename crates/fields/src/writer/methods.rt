@@ -6,6 +6,8 @@ ghost use Rattle.layouts.specs.Bits.{bit, word, bits_of};
 ghost use Rattle.layouts.specs.Layout.{u, ue, fixed, coded, closing, extension};
 ghost use Rattle.fields.specs.Writing.{sheet, put, laid, lays};
 
+use crate::LONGEST;
+use crate::closing::closing_bits;
 use crate::writer::Writer;
 
 impl<'a> Writer<'a> {
@@ -21,8 +23,7 @@ impl<'a> Writer<'a> {
     pub fn len(&self) -> usize
         ensures { result ≡ (sheet self.now).place }
     {
-        let Writer { at, .. } = self;
-        *at
+        self.at
     }
 
     // The `width` lowest bits of `value`, highest first; a width above 32 is none.
@@ -53,11 +54,12 @@ impl<'a> Writer<'a> {
     }
 
     // The payload ends here: a one and zeros up to the end of the byte, or nothing where a byte ends.
+    #[tactic(auto, using(crate::proofs::Sheets::closings))]
     pub fn close(&mut self)
         ensures after { sheet self.new ≡ put (closing self.old.at) (sheet self.old) }
     {
-        let spare = spare_bits(self.at);
-        self.word(spare, (1 << spare) >> 1);
+        let (width, value) = closing_bits(self.at);
+        self.word(width, u64::from(value));
     }
 
     // The same after an extension bit, which is written as 0.
@@ -69,13 +71,14 @@ impl<'a> Writer<'a> {
     }
 
     // The `width` lowest bits of `value`, in one piece: written where all of them fit, and counted in any case.
+    #[tactic(auto, using(crate::proofs::Sheets::wording))]
     fn word(&mut self, width: u32, value: u64)
         requires { width ≤ 64 }
         ensures { sheet self.new ≡ put (word width value) (sheet self.old) }
     {
         let at = self.at;
         let end = at.saturating_add(width as usize);
-        if end <= self.bytes.len().min(65_535) * 8 {
+        if end <= self.bytes.len().min(LONGEST) * 8 {
             lay(self.bytes, at, width, value);
         }
         self.at = end;
@@ -91,15 +94,6 @@ fn digits(width: u32) -> u32
     if width > 32 { 0 } else { width }
 }
 
-// How many bits close a payload that ends at the bit `at`.
-#[tactic(auto, using(crate::proofs::Sheets::widths))]
-fn spare_bits(at: usize) -> u32
-    ensures digits { word result ((1 * 2 ^ result) % 2 ^ 64 / 2 ^ 1) ≡ closing at }
-    ensures few { result < 8 }
-{
-    ((8 - at % 8) % 8) as u32
-}
-
 // How many digits of `value + 1` make a ue field, the zeros before it among them.
 #[tactic(auto, using(crate::proofs::Sheets::widths))]
 fn ue_width(value: u32) -> u32
@@ -109,17 +103,19 @@ fn ue_width(value: u32) -> u32
     if value == u32::MAX {
         return 0;
     }
-    2 * (31 - (value + 1).leading_zeros()) + 1
+    2 * (value + 1).ilog2() + 1
 }
 
 // Puts the `width` lowest bits of `value` in place of the bits from `at` on, a byte at a time.
+#[tactic(auto, using(crate::proofs::Laid::laying))]
 fn lay(bytes: &mut [u8], at: usize, width: u32, value: u64)
     requires { (at + width ≤ 8 * length bytes.old) × ((at + width ≤ 524280) × (width ≤ 64)) }
     ensures { bits_of bytes.new ≡ laid at (word width value) (bits_of bytes.old) }
 {
     let end = at + width as usize;
-    // by number, since a byte's place says which bits it has
-    for i in at / 8..(end + 7) / 8 {
+    // by number, since a byte's place says which bits it has; over the bytes it would be a chain of three, numbered, begun and
+    // ended in the middle
+    for i in at / 8..end.div_ceil(8) {
         let from = at.max(8 * i);
         let to = end.min(8 * i + 8);
         let low = 8 * i + 8 - to;
@@ -133,6 +129,7 @@ fn lay(bytes: &mut [u8], at: usize, width: u32, value: u64)
 }
 
 // A byte with the `n` lowest bits of `value` in place of those above its `low` lowest.
+#[tactic(auto, using(crate::proofs::Laid::laying))]
 fn patched(byte: u8, low: u32, n: u32, value: u64) -> u8
     requires { low + n ≤ 8 }
     ensures { word 8 result ≡ laid (8 - (low + n)) (word n value) (word 8 byte) }

@@ -62,10 +62,10 @@ impl Arrangement {
     ) -> Result<Arrangement, FieldFault>
         ensures { MakesArrangement arrangement_type quincunx_sampling content_interpretation flags grid period result }
     {
-        if arrangement_type > 127 || content_interpretation > 63 {
-            return Err(FieldFault::OutOfRange(0));
-        }
-        if grid.is_some() == gridless(quincunx_sampling, arrangement_type) {
+        if arrangement_type > 127
+            || content_interpretation > 63
+            || grid.is_some() == gridless(quincunx_sampling, arrangement_type)
+        {
             return Err(FieldFault::OutOfRange(0));
         }
         Ok(Arrangement {

@@ -14,6 +14,7 @@ use layouts::fault::FieldFault;
 use records::period::Period;
 
 impl PackingFlags {
+    #[tactic(auto, unfolding(crate::specs::FramePacking::flags))]
     fn decode(reader: &mut Reader) -> Result<PackingFlags, FieldFault>
         ensures { ReadsGroup flags_part flag_numbers reader.old result reader.new }
     {
@@ -33,6 +34,7 @@ impl PackingFlags {
         })
     }
 
+    #[tactic(auto, unfolding(crate::specs::FramePacking::flags))]
     fn encode(&self, writer: &mut Writer)
         ensures after { WritesGroup flags_part (flag_numbers self.now) (sheet writer.old) (sheet writer.new) }
     {
@@ -45,9 +47,10 @@ impl PackingFlags {
     }
 }
 
-// Four fields of one width, as region-wise packing has them: a trait for both would be public, and promise to all what
-// two crates want.
+// Four fields of one width, as `Four` of region-wise packing has them. `Four` asks of its callers that the numbers are
+// below a bound; a trait of both crates would be public, and no public function of this product has such a premise.
 impl GridPositions {
+    #[tactic(auto, unfolding(crate::specs::FramePacking::grid))]
     fn decode(reader: &mut Reader) -> Result<GridPositions, FieldFault>
         ensures { ReadsGroup (grid_part false) (λ g. grid_numbers (Some g)) reader.old result reader.new }
     {
@@ -63,6 +66,7 @@ impl GridPositions {
         })
     }
 
+    #[tactic(auto, unfolding(crate::specs::FramePacking::grid))]
     fn encode(&self, writer: &mut Writer)
         ensures after { WritesGroup (grid_part false) (grid_numbers (Some self.now)) (sheet writer.old) (sheet writer.new) }
     {
@@ -80,7 +84,10 @@ pub(super) fn gridless(quincunx_sampling: bool, arrangement_type: u8) -> bool
     quincunx_sampling || arrangement_type == 5
 }
 
-// The grid positions, unless there are none. A trait for all optional groups would be longer than the `if`s that it would say once.
+// The grid positions, unless there are none. A trait for all optional groups would be longer than the `if`s that it
+// would say once. With `then` and `transpose` the proof asks where the reader stands after a closure that may not have
+// run, which the search does not find; the `if` needs no answer.
+#[tactic(auto, unfolding(crate::specs::FramePacking::grid))]
 fn decode_grid(reader: &mut Reader, gridless: bool) -> Result<Option<GridPositions>, FieldFault>
     ensures reads { ReadsGroup (grid_part gridless) grid_numbers reader.old result reader.new }
     ensures some { IfOk result (λ g. is_some g ≡ not gridless) }
@@ -88,10 +95,12 @@ fn decode_grid(reader: &mut Reader, gridless: bool) -> Result<Option<GridPositio
     if gridless {
         return Ok(None);
     }
-    let grid = GridPositions::decode(reader)?;
-    Ok(Some(grid))
+    Ok(Some(GridPositions::decode(reader)?))
 }
 
+// Writes the grid positions, where there are any. It is an `if`, as reading them is: a trait for all optional groups
+// would be longer.
+#[tactic(auto, unfolding(crate::specs::FramePacking::grid))]
 fn encode_grid(grid: Option<GridPositions>, writer: &mut Writer)
     ensures after { WritesGroup (grid_part (not (is_some grid))) (grid_numbers grid) (sheet writer.old) (sheet writer.new) }
 {

@@ -11,7 +11,7 @@ use fields::reader::Reader;
 use fields::writer::Writer;
 use layouts::fault::FieldFault;
 use records::fault::PayloadFault;
-use records::record::Record;
+use records::record::{Record, check_length};
 
 // The id that comes next; a reserved one is out of range.
 fn decode_id(reader: &mut Reader) -> Result<PackingId, FieldFault>
@@ -29,14 +29,11 @@ impl FramePacking {
         self.arrangement.is_none()
     }
 
-    // The id in a payload, reserved or not: nothing behind it is looked at. The length is asked as of a record, since no
-    // record is read.
+    // The id in a payload, reserved or not: nothing behind it is looked at.
     pub fn id_of(payload: &[u8]) -> Result<u32, PayloadFault>
         ensures { result ≡ id_as payload.now }
     {
-        if payload.len() > 65_535 {
-            return Err(PayloadFault::TooLong);
-        }
+        check_length(payload)?;
         let mut reader = Reader::new(payload);
         let id = reader.ue()?;
         Ok(id)

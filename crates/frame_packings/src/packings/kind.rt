@@ -7,7 +7,8 @@ ghost use Rattle.frame_packings.specs.TableLaws.{table_sound};
 ghost use Rattle.frame_packings.specs.Tables.{meaning_of};
 
 use crate::packings::FramePackings;
-use frame_packing::message::FramePacking;
+use bounded::Bounded;
+use frame_packing::message::{FramePacking, PackingId};
 use kinds::fault::{LookFault, OfferFault, Offered};
 use kinds::kind::Kind;
 use records::record::Record;
@@ -26,12 +27,14 @@ impl Kind for FramePackings {
     ghost meaning = { λ s. meaning_of (items s.table) };
 
     fn empty() -> FramePackings {
-        FramePackings::none()
+        FramePackings {
+            table: Bounded::new(),
+        }
     }
 
     fn picture(&mut self, mark: bool) {
         if mark {
-            *self = FramePackings::none();
+            *self = FramePackings::empty();
         } else {
             self.end_once();
         }
@@ -39,15 +42,23 @@ impl Kind for FramePackings {
 
     fn offer(&mut self, payload: &[u8]) -> Result<Offered, OfferFault> {
         let id = FramePacking::id_of(payload)?;
-        self.decide(id, <FramePacking as Record>::read(payload))
+        // passed over, whatever else is read of it
+        if PackingId::is_reserved(id) {
+            return Ok(Offered::Passed);
+        }
+        let message = <FramePacking as Record>::read(payload)?;
+        self.decide(message)
     }
 
+    #[tactic(auto, using(crate::proofs::Rows::as_many))]
     fn count(&self) -> usize {
-        self.len()
+        self.table.len()
     }
 
+    #[tactic(auto, using(crate::proofs::Parts::lengths))]
     fn payload_len(&self, n: usize) -> Option<usize> {
-        self.len_at(n)
+        let packing = self.table.get(n)?;
+        Some(packing.message().payload_len())
     }
 
     fn payload(&self, n: usize, buffer: &mut [u8]) -> Result<usize, LookFault> {

@@ -1,13 +1,11 @@
-// The packings in force: which of them are kept, one more among them, and the payloads that bring them back.
-ghost use Rattle.std.specs.Prelude.{◌≡◌, Bool, false, [], length, filter, nat_lt};
-ghost use Rattle.std.specs.Fn.{CalledAt};
+// The packings in force: which of them are kept, one more among them, and a payload that brings one back.
+ghost use Rattle.std.specs.Prelude.{◌≡◌, false, filter, nat_lt};
 ghost use Rattle.std.specs.List.{slice_get};
 ghost use Rattle.bounded.specs.Bounded.{items};
-ghost use Rattle.bounded.specs.Tests.{Tests};
-ghost use Rattle.kinds.specs.Outcome.{length_of, looked};
+ghost use Rattle.kinds.specs.Outcome.{looked};
 ghost use Rattle.frame_packings.specs.Packings.{outlasts, full, joined};
-ghost use Rattle.frame_packings.specs.Tables.{packed_of, meaning_of, handed_out};
-ghost use Rattle.frame_packings.specs.Meaning.{meaning, part};
+ghost use Rattle.frame_packings.specs.Tables.{packed_of, meaning_of, handed_out, part_of};
+ghost use Rattle.frame_packings.specs.Meaning.{meaning};
 
 use crate::packing::Packing;
 use crate::packings::FramePackings;
@@ -27,15 +25,6 @@ impl FramePackings {
         })
     }
 
-    // No packings.
-    pub(super) fn none() -> FramePackings
-        ensures { meaning result ≡ [] }
-    {
-        FramePackings {
-            table: Bounded::new(),
-        }
-    }
-
     // Ends those that are once.
     #[tactic(auto, using(crate::proofs::Rows::staying))]
     pub(super) fn end_once(&mut self)
@@ -45,6 +34,7 @@ impl FramePackings {
     }
 
     // Whether four packings of other ids are in force.
+    #[tactic(auto, using(crate::proofs::Rows::many))]
     pub(super) fn is_full(&self, id: u32) -> bool
         ensures { result ≡ full id (meaning self.now) }
     {
@@ -53,6 +43,7 @@ impl FramePackings {
     }
 
     // Brings a packing into force, in place of one of its id.
+    #[tactic(auto, using(crate::proofs::Rows::joining))]
     pub(super) fn put(&mut self, packing: Packing)
         requires { full packing.id.number (meaning self.old) ≡ false }
         ensures { meaning self.new ≡ joined (packed_of packing) (meaning self.old) }
@@ -68,41 +59,17 @@ impl FramePackings {
         ensures lower { items result.0 ≡ filter (λ p. nat_lt p.id.number id) (items self.now.table) }
         ensures higher { items result.1 ≡ filter (λ p. nat_lt id p.id.number) (items self.now.table) }
     {
-        let lower = self.those(|packing| packing.id.number < id);
-        let higher = self.those(|packing| packing.id.number > id);
+        let lower = self.table.kept(|packing| packing.id.number < id);
+        let higher = self.table.kept(|packing| packing.id.number > id);
         (lower, higher)
     }
 
-    // Those at which `keep` answers `true`.
-    fn those<F: FnMut(&Packing) -> bool>(&self, keep: F) -> Bounded<Packing, 4>
-        requires { F.IsAlwaysCallable keep }
-        ensures { (test : Packing → Bool) → Tests (CalledAt F.FnMut) keep test → items result ≡ filter test (items self.now.table) }
-    {
-        let mut table = self.table;
-        table.retain(keep);
-        table
-    }
-
-    // How many payloads bring them back.
-    #[tactic(auto, using(crate::proofs::Rows::as_many))]
-    pub(super) fn len(&self) -> usize
-        ensures { result ≡ length (part self.now) }
-    {
-        self.table.len()
-    }
-
-    // The length of the payload for the packing at place n.
-    pub(super) fn len_at(&self, n: usize) -> Option<usize>
-        ensures { result ≡ length_of (part self.now) n }
-    {
-        let packing = self.table.get(n)?;
-        Some(packing.message().payload_len())
-    }
-
-    // Writes that payload to the buffer's front and answers its length.
+    // Writes the payload for the packing at place n to the buffer's front and answers its length. Apart from `payload` of the
+    // kind: one clause is answered by hand, and an edit of a function with an answer is refused at the answer, not for a fact.
+    #[tactic(auto, using(crate::proofs::Parts::looking))]
     pub(super) fn write_at(&self, n: usize, buffer: &mut [u8]) -> Result<usize, LookFault>
-        ensures answer { result ≡ (looked (part self.now) n buffer.old).0 }
-        ensures bytes { buffer.new ≡ (looked (part self.now) n buffer.old).1 }
+        ensures answer { result ≡ (looked (part_of (items self.now.table)) n buffer.old).0 }
+        ensures bytes { buffer.new ≡ (looked (part_of (items self.now.table)) n buffer.old).1 }
     {
         let packing = self.table.get(n).ok_or(LookFault::Missing)?;
         Ok(packing.message().write(buffer)?)

@@ -9,12 +9,15 @@ use fields::reader::Reader;
 use fields::writer::Writer;
 use layouts::fault::FieldFault;
 
+// The pictures of a period at most.
+const MOST: u32 = 16_384;
+
 impl Period {
     // A period of so many pictures; more than 16,384 are out of range.
     pub fn new(pictures: u32) -> Result<Period, FieldFault>
         ensures { MakesPeriod pictures result }
     {
-        if pictures > 16_384 {
+        if pictures > MOST {
             return Err(FieldFault::OutOfRange(0));
         }
         Ok(Period {
@@ -26,7 +29,7 @@ impl Period {
     pub fn read(reader: &mut Reader) -> Result<Period, FieldFault>
         ensures { ReadsPeriod reader.old result reader.new }
     {
-        let pictures = reader.ue_to(16_384)? as u16;
+        let pictures = reader.ue_to(MOST)? as u16;
         Ok(Period { pictures })
     }
 

@@ -1,11 +1,9 @@
 // Making a guard band, reading it and writing it.
-ghost use Rattle.std.specs.Prelude.{◌≡◌, ◌+◌, OnOk};
 ghost use Rattle.fields.specs.Groups.{ReadsGroup, WritesGroup};
-ghost use Rattle.fields.specs.Reading.{left};
 ghost use Rattle.fields.specs.Writing.{sheet};
 ghost use Rattle.regionwise_packing.specs.Regions.{guard_band};
 ghost use Rattle.regionwise_packing.specs.Numbers.{band_numbers};
-ghost use Rattle.regionwise_packing.specs.Makings.{MakesBand};
+ghost use Rattle.regionwise_packing.specs.Makings.{Goes, MakesBand};
 
 use crate::four;
 use crate::guard_band::GuardBand;
@@ -19,7 +17,9 @@ impl GuardBand {
     pub fn new(widths: Sides<u8>, not_used: bool, types: Sides<u8>) -> Result<GuardBand, FieldFault>
         ensures { MakesBand widths not_used types result }
     {
-        if types.left > 7 || types.right > 7 || types.top > 7 || types.bottom > 7 {
+        let each = [types.left, types.right, types.top, types.bottom];
+        // `equirectangular` asks the same of its one type: a function of both would lie in a crate below both, public, with a contract and an edit of its own, and be longer than the comparison that it would say once
+        if each.iter().any(|guard_type| *guard_type > 7) {
             return Err(FieldFault::OutOfRange(0));
         }
         Ok(GuardBand {
@@ -31,7 +31,7 @@ impl GuardBand {
 
     pub(crate) fn read(reader: &mut Reader) -> Result<GuardBand, FieldFault>
         ensures reads { ReadsGroup guard_band band_numbers reader.old result reader.new }
-        ensures goes { OnOk result ((left reader.new).place ≡ (left reader.old).place + 48) }
+        ensures goes { Goes 48 reader.old result reader.new }
     {
         let widths = four::read(reader, 8)?;
         let not_used = reader.flag()?;

@@ -1,17 +1,16 @@
 // Making a region, reading it and writing it.
-ghost use Rattle.std.specs.Prelude.{◌≡◌, ℕ, ◌+◌, true, is_some, IfOk, if◌then◌else◌, OnOk};
+ghost use Rattle.std.specs.Prelude.{◌≡◌, ℕ, true, is_some, IfOk, if◌then◌else◌};
 ghost use Rattle.fields.specs.Groups.{ReadsGroup, WritesGroup};
-ghost use Rattle.fields.specs.Reading.{left};
 ghost use Rattle.fields.specs.Writing.{sheet};
 ghost use Rattle.regionwise_packing.specs.declared.shapes.Size.{Size as SizeOf};
 ghost use Rattle.regionwise_packing.specs.Regions.{inside as is_inside, guard_band_if, region as region_fields};
 ghost use Rattle.regionwise_packing.specs.Numbers.{option_numbers, region_numbers};
-ghost use Rattle.regionwise_packing.specs.Makings.{MakesRegion};
+ghost use Rattle.regionwise_packing.specs.Makings.{Goes, MakesRegion};
 
 use crate::four;
 use crate::guard_band::GuardBand;
 use crate::region::Region;
-use crate::shapes::{Rectangle, Size};
+use crate::shapes::{Rectangle, Size, lacks_area};
 use crate::transform::Transform;
 use fields::reader::Reader;
 use fields::writer::Writer;
@@ -28,11 +27,7 @@ impl Region {
         ensures { MakesRegion 0 transform projected packed guard result }
     {
         let transform = Transform::try_from(transform)?;
-        if projected.width == 0
-            || projected.height == 0
-            || packed.width == 0
-            || packed.height == 0
-        {
+        if lacks_area(projected.size(), packed.size()) {
             return Err(FieldFault::OutOfRange(0));
         }
         Ok(Region {
@@ -86,10 +81,11 @@ impl Region {
 }
 
 // A guard band, where there is one. A trait for all optional groups would be longer than the `if`s that it would say once.
+// `guarded.then(|| ..).transpose()?` was tried: `then` does not say that the reader stays where it is when the closure is not called.
 fn read_guard(reader: &mut Reader, guarded: bool) -> Result<Option<GuardBand>, FieldFault>
     ensures reads { ReadsGroup (guard_band_if guarded) option_numbers reader.old result reader.new }
     ensures some { IfOk result (λ g. is_some g ≡ guarded) }
-    ensures goes { OnOk result ((left reader.new).place ≡ (left reader.old).place + (if guarded then 48 else 0)) }
+    ensures goes { Goes (if guarded then 48 else 0) reader.old result reader.new }
 {
     if guarded {
         let band = GuardBand::read(reader)?;
@@ -99,6 +95,7 @@ fn read_guard(reader: &mut Reader, guarded: bool) -> Result<Option<GuardBand>, F
     }
 }
 
+// Writes a guard band, where there is one. It is an `if`, as reading one is: a trait for all optional groups would be longer.
 fn write_guard(writer: &mut Writer, guard: Option<GuardBand>)
     ensures after { WritesGroup (guard_band_if (is_some guard)) (option_numbers guard) (sheet writer.old) (sheet writer.new) }
 {

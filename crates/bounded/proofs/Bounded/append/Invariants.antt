@@ -1,7 +1,6 @@
-use Rattle.std.proofs.Common.{◌≡◌, ◌++◌, take, drop}
+use Rattle.std.proofs.Common.{◌≡◌, ◌++◌, map, take}
 use Rattle.bounded.specs.Bounded.{items}
-use Rattle.bounded.specs.Places.{held}
 use Rattle.bounded.proofs.Bounded.append.Given as goal
 
-abbrev pub invariant-loop-place : goal.invariant-loop-place
-invariant-loop-place g l = take g.row.N (items l.self ++ held (drop l.place-index l.place-items)) ≡ take g.row.N (items l.fn.self ++ items l.fn.other)
+abbrev pub invariant-loop-value : goal.invariant-loop-value
+invariant-loop-value g l = items l.self ≡ take g.row.N (items l.fn.self ++ map (λ x. x.now) l.yielded)

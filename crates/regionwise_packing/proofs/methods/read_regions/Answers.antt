@@ -1,17 +1,12 @@
-use Rattle.std.proofs.lemmas.Result.{err_from_is_err_and}
 use Rattle.bounded.specs.Bounded.{items}
 use Rattle.fields.specs.Reading.{left}
+use Rattle.regionwise_packing.proofs.Exits.{goes_out}
 use Rattle.regionwise_packing.proofs.Loops.{read-err, read_more}
 use Rattle.regionwise_packing.proofs.methods.read_regions.Goals as goal
 
-pub returns-in_err-region : goal.returns-in_err-region
-returns-in_err-region c =
-    let p = err_from_is_err_and c.from_residual.result c.from_residual.ensures.1 in
-    rw (p.1, p.2)
-    (record {
-      reads = read-err c.args.picture c.args.count c.loop.counter (left c.args.reader.now) (left c.loop.reader) (items c.loop.regions) _ c.loop-test.true c.loop.invariant c.in_err-region.ensures.reads;
-      inside = tt;
-    })
+pub returns-in_err-region-clause-reads : goal.returns-in_err-region-clause-reads
+returns-in_err-region-clause-reads c =
+    rw (goes_out _ c.from_residual.ensures.1) (read-err c.args.picture c.args.count c.loop.counter (left c.args.reader.now) (left c.loop.reader) (items c.loop.regions) _ c.loop-test.true c.loop.invariant c.in_err-region.ensures.reads)
 
 pub loop-preserved : goal.loop-preserved
 loop-preserved c =

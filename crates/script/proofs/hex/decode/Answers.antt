@@ -1,25 +1,14 @@
 -- Each turn reads one byte; `c.as_bytes-c-items.ensures` ties the bytes to the text.
-use Rattle.std.proofs.Common.{◌+◌, ◌<◌, length, None, vec_items, IsUtf8, sym, refl, ap, ◌∙◌, subst, arith}
+use Rattle.std.proofs.Common.{◌+◌, ◌<◌, length, vec_items, IsUtf8, sym, refl, ap, ◌∙◌, subst, arith}
 use Rattle.std.proofs.lemmas.Str.{IsCharBoundary-start}
-use Rattle.script.specs.Hex.{reading}
 use Rattle.script.proofs.Reading.{named, not-hex-at, blank_turn, first-turn, second-turn}
 use Rattle.script.proofs.hex.decode.Goals as goal
 
 pub loop-i-init : goal.loop-i-init
-loop-i-init c =
-    let text = c.args.text.now in (
-      ap (λ l. reading l None text text) c.new-bytes.ensures.items,
-      tt,
-      IsCharBoundary-start text (subst IsUtf8 c.as_bytes-c-items.ensures.value c.as_bytes-c-items.ensures.utf8),
-    )
+loop-i-init c = grind (arith, IsCharBoundary-start)
 
-pub returns-in_default : goal.returns-in_default
-returns-in_default c =
-    let dark = c.if-is_ascii_whitespace.ensures.value in
-    let same = c.as_bytes-c-items.ensures.value in
-    let long = c.as_bytes-c-items.ensures.len in
-    let none = c.in_default.ensures in
-    (sym c.loop-i.invariant.0 ∙ not-hex-at c.args.text.now c.loop-i.i (omega arith) _ _ c.loop-i.high (cc) (cc), c.loop-i.invariant.2)
+pub returns-in_err-low : goal.returns-in_err-low
+returns-in_err-low c = grind (arith, not-hex-at)
 
 pub loop-i-preserved : goal.loop-i-preserved
 loop-i-preserved c =
@@ -32,14 +21,14 @@ loop-i-preserved c =
           let white = w.if-is_ascii_whitespace.ensures.value in
           named c.args.text.now (c.loop-i.i + 1) (ap vec_items w.bytes-is) w.high-is w.word-is
           (blank_turn c.args.text.now c.loop-i.i lt _ _ c.loop-i.high (subst IsUtf8 same c.as_bytes-c-items.ensures.utf8) turn (cc) (sym w.if-is_some.ensures))
-      | goal.else-is_ascii_whitespace+in-Some+in-None w ↦
+      | goal.else-is_ascii_whitespace+in_ok-low+in-None w ↦
           let dark = w.if-is_ascii_whitespace.ensures.value in
-          let some = w.in-Some.ensures in
+          let some = w.in_ok-low.ensures in
           named c.args.text.now (c.loop-i.i + 1) (ap vec_items w.bytes-is) w.high-is w.word-is
           (first-turn c.args.text.now c.loop-i.i lt _ _ _ (named c.args.text.now c.loop-i.i refl (sym w.in-None.is) refl turn) (cc) (cc))
-      | goal.else-is_ascii_whitespace+in-Some+in-Some-high+in_ok-push-in-Some-high w ↦
+      | goal.else-is_ascii_whitespace+in_ok-low+in-Some+in_ok-push-in-Some w ↦
           let dark = w.if-is_ascii_whitespace.ensures.value in
-          let some = w.in-Some.ensures in
-          named c.args.text.now (c.loop-i.i + 1) (ap vec_items w.bytes-is ∙ w.in_ok-push-in-Some-high.ensures.items) w.high-is w.word-is
-          (second-turn c.args.text.now c.loop-i.i lt _ _ _ _ (named c.args.text.now c.loop-i.i refl (sym w.in-Some-high.is) refl turn) (cc) (cc))
+          let some = w.in_ok-low.ensures in
+          named c.args.text.now (c.loop-i.i + 1) (ap vec_items w.bytes-is ∙ w.in_ok-push-in-Some.ensures.items) w.high-is w.word-is
+          (second-turn c.args.text.now c.loop-i.i lt _ _ _ _ (named c.args.text.now c.loop-i.i refl (sym w.in-Some.is) refl turn) (cc) (cc))
     ]

@@ -1,16 +1,8 @@
-use Rattle.std.proofs.Common.{◌≡◌, ℕ, ◌+◌, ◌-◌, ◌*◌, ◌/◌, ◌^◌, min, max, get_or, set, sym, refl, ap, ◌∙◌, arith}
+use Rattle.std.proofs.Common.{◌≡◌, ℕ, ◌+◌, ◌-◌, ◌*◌, ◌/◌, ◌^◌, min, max, get_or, set, refl, ap, ◌∙◌, arith}
 use Rattle.layouts.specs.Bits.{word, bits_of}
 use Rattle.fields.specs.Writing.{laid}
-use Rattle.fields.proofs.Laid.{lay-more, lay-none}
+use Rattle.fields.proofs.Laid.{lay-more}
 use Rattle.fields.proofs.writer.methods.lay.Goals as goal
-
-pub loop-i-init : goal.loop-i-init
-loop-i-init c =
-    let at = c.args.at in
-    let end = at + c.args.width in
-    let start : min end (max at (8 * (at / 8))) ≡ at = omega arith in
-    let all : end - at ≡ c.args.width = omega arith in
-    ap (λ p. laid p (word (end - p) c.args.value) (bits_of c.args.bytes.now)) start ∙ ap (λ w. laid at (word w c.args.value) (bits_of c.args.bytes.now)) all
 
 pub loop-i-preserved : goal.loop-i-preserved
 loop-i-preserved c =
@@ -27,6 +19,3 @@ loop-i-preserved c =
     ap (λ p. laid p (word (end - p) value) (bits_of (set bytes i c.patched.result))) next
     ∙ lay-more bytes _ i from to end c.patched.result value (omega arith) (omega arith) (omega arith) (omega arith) (omega arith) (omega arith) byte refl
     ∙ ap (λ p. laid p (word (end - p) value) (bits_of bytes)) here ∙ c.loop-i.invariant
-
-pub returns : goal.returns
-returns c = sym (lay-none c.loop-i.bytes _ _ c.args.value (omega arith)) ∙ c.loop-i.invariant

@@ -7,7 +7,7 @@ use Rattle.records.proofs.record.Record.read.Goals as goal
 
 pub returns-in_err-record : goal.returns-in_err-record
 returns-in_err-record g c =
-    let p = err_from_is_err_and c.from_residual.result c.from_residual.ensures.1 in
+    let p = err_from_is_err_and c.from_residual-in_err-record.result c.from_residual-in_err-record.ensures.1 in
     rw (p.1, p.2) (record { value = reads_whole g.Self.Record.layout c.args.payload.now _ (omega arith) c.new.ensures _ c.in_err-record.ensures; plain = tt })
 
 pub returns : goal.returns
