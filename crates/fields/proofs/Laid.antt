@@ -1,5 +1,5 @@
 -- What is laid over a list: part after part, and inside a part.
-use Rattle.std.proofs.Common.{◌≡◌, ℕ, zero, suc, ◌+◌, ◌-◌, ◌*◌, ◌/◌, ◌%◌, ◌^◌, ◌<◌, ◌≤◌, Bool, List, [], ◌∷◌, ◌++◌, length, get_or, take, drop, set, sym, ap, ◌∙◌, subst, append_assoc, mod-lt, arith, length-append, length-drop, take-append-drop, length-take, drop-drop, take_at, drop_at, pow_pos, pow_mono}
+use Rattle.std.proofs.Common.{◌≡◌, ℕ, zero, suc, ◌+◌, ◌-◌, ◌*◌, ◌/◌, ◌%◌, ◌^◌, ◌<◌, ◌≤◌, min, max, Bool, List, [], ◌∷◌, ◌++◌, length, get_or, take, drop, set, sym, ap, ◌∙◌, subst, append_assoc, mod-lt, arith, length-append, length-drop, take-append-drop, length-take, drop-drop, take_at, drop_at, pow_pos, pow_mono}
 use lib.Bits.{bit_and, bit_or, and_mask, or_shifted}
 use lib.Seq.{drop-append-add, take-append-add, take-append-le, drop-append-le}
 use Rattle.std.proofs.lemmas.Nat.{one_shl, shl_whole, shl_below, shr_below}
@@ -115,6 +115,23 @@ lay-more bs ds i from to end b v inside lower some upper few room e f =
     let sum : to - from + (end - to) ≡ end - from = omega arith in
     let all : xs ++ word (end - to) v ≡ word (end - from) v = sym (word_split (to - from) (end - to) v) ∙ ap (λ w. word w v) sum in
     (λ j. laid (behind j) (word (end - to) v) (one j)) ∙ laid-laid from xs (word (end - to) v) (bits_of bs) (omega (arith, length-bits bs)) ∙ ap (λ l. laid from l (bits_of bs)) all
+
+-- the same by what is left: as much of it goes into the byte i as has room behind the place
+pub lay-part : (bs ds : List ℕ) (at end i left free n b v : ℕ) → i < length bs → end ≤ 8 * length bs → at < 8 * i + 8 → max at (8 * i) + left ≡ end → free ≡ 8 * i + 8 - max at (8 * i) → n ≡ min left free
+    → word 8 b ≡ laid (8 - (free - n + n)) (word n (v / 2 ^ (left - n))) (word 8 (get_or bs i 0)) → ds ≡ set bs i b
+    → laid (max at (8 * i) + n) (word (left - n) v) (bits_of ds) ≡ laid (max at (8 * i)) (word left v) (bits_of bs)
+lay-part bs ds at end i left free n b v inside room near sum space part e f =
+    let from = max at (8 * i) in
+    let to = from + n in
+    let low : 8 - (free - n + n) ≡ from - 8 * i = omega arith in
+    let some : n ≡ to - from = omega arith in
+    let rest : left - n ≡ end - to = omega arith in
+    let whole : end - from ≡ left = omega arith in
+    let byte : word 8 b ≡ laid (from - 8 * i) (word (to - from) (v / 2 ^ (end - to))) (word 8 (get_or bs i 0)) =
+    e ∙ (λ j. laid (low j) (word (some j) (v / 2 ^ rest j)) (word 8 (get_or bs i 0))) in
+    ap (λ k. laid to (word k v) (bits_of ds)) rest
+    ∙ lay-more bs ds i from to end b v inside (omega arith) (omega arith) (omega arith) (omega arith) room byte f
+    ∙ ap (λ k. laid from (word k v) (bits_of bs)) whole
 
 pub lay-none : (bs : List ℕ) (place left v : ℕ) → left ≤ 0 → laid place (word left v) (bits_of bs) ≡ bits_of bs
 unfolding word

@@ -10,7 +10,7 @@ use crate::reader::Reader;
 use layouts::fault::FieldFault;
 
 // A method finds a number, judges it and goes on: each has a judgement of its own, which its contract names, and with a
-// closure for it none would be shorter.
+// closure for it none would be shorter. The three that are inlined are short where a record's fields stand at known places.
 impl<'a> Reader<'a> {
     // A reader at the first bit of a payload. It looks at the first 65,535 bytes: no payload has more.
     pub fn new(bytes: &'a [u8]) -> Reader<'a>
@@ -46,6 +46,7 @@ impl<'a> Reader<'a> {
     }
 
     // A signed number of 32 bits, from `low` to `high`.
+    #[inline(always)]
     #[tactic(auto, unfolding(layouts::specs::Layout::between))]
     pub fn signed_within(&mut self, low: i32, high: i32) -> Result<i32, FieldFault>
         ensures reads { ReadsSigned (within (u 32) (between low high)) self.old result self.new }
@@ -106,6 +107,7 @@ impl<'a> Reader<'a> {
 impl<'a> Reader<'a> {
     // The number in the next `width` bits, and the bit behind them; a pair here and below, and no struct, since each caller
     // takes it apart at once.
+    #[inline(always)]
     #[tactic(auto, using(layouts::proofs::Steps::fixed_left))]
     pub(super) fn find_bits(&self, width: u32) -> Result<(u32, usize), FieldFault>
         ensures found { Found (fixed width) self.now.bytes.now self.now.at result }
@@ -122,6 +124,7 @@ impl<'a> Reader<'a> {
     }
 
     // The ue field that comes next, and the bit behind it.
+    #[inline(always)]
     #[tactic(auto, using(layouts::proofs::Golomb::ue_left))]
     fn find_ue(&self) -> Result<(u32, usize), FieldFault>
         ensures { Found ue self.now.bytes.now self.now.at result }
@@ -156,7 +159,7 @@ impl<'a> Reader<'a> {
     {
         let end = at + width as usize;
         let first = at / 8;
-        let last = end.div_ceil(8);
+        let last = (end + 7) / 8;
         let mut joined: u64 = 0;
         for b in &self.bytes[first..last] {
             joined = joined << 8 | u64::from(*b);

@@ -112,19 +112,17 @@ fn lay(bytes: &mut [u8], at: usize, width: u32, value: u64)
     requires { (at + width ≤ 8 * length bytes.old) × ((at + width ≤ 524280) × (width ≤ 64)) }
     ensures { bits_of bytes.new ≡ laid at (word width value) (bits_of bytes.old) }
 {
-    let end = at + width as usize;
-    // by number, since a byte's place says which bits it has; over the bytes it would be a chain of three, numbered, begun and
-    // ended in the middle
-    for i in at / 8..end.div_ceil(8) {
-        let from = at.max(8 * i);
-        let to = end.min(8 * i + 8);
-        let low = 8 * i + 8 - to;
-        bytes[i] = patched(
-            bytes[i],
-            low as u32,
-            (to - from) as u32,
-            value >> (end - to),
-        );
+    let mut left = width;
+    let mut free = 8 - (at % 8) as u32;
+    // it stops by what is left, and not by where the field ends: so a field that is known to lie in one byte is no loop
+    for i in at / 8..bytes.len() {
+        let n = left.min(free);
+        left -= n;
+        bytes[i] = patched(bytes[i], free - n, n, value >> left);
+        if left == 0 {
+            break;
+        }
+        free = 8;
     }
 }
 

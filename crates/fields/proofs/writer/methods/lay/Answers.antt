@@ -1,21 +1,21 @@
-use Rattle.std.proofs.Common.{◌≡◌, ℕ, ◌+◌, ◌-◌, ◌*◌, ◌/◌, ◌^◌, min, max, get_or, set, refl, ap, ◌∙◌, arith}
+use Rattle.std.proofs.Common.{◌≡◌, ◌+◌, ◌-◌, ◌*◌, max, set, sym, refl, ap, ◌∙◌, arith}
 use Rattle.layouts.specs.Bits.{word, bits_of}
 use Rattle.fields.specs.Writing.{laid}
-use Rattle.fields.proofs.Laid.{lay-more}
+use Rattle.fields.proofs.Laid.{lay-part, lay-none}
 use Rattle.fields.proofs.writer.methods.lay.Goals as goal
 
 pub loop-i-preserved : goal.loop-i-preserved
 loop-i-preserved c =
-    let i = c.loop-i.i in
-    let bytes = c.loop-i.bytes in
-    let value = c.args.value in
-    let end = c.args.at + c.args.width in
-    let from = c.max-from.result in
-    let to = c.min-to.result in
-    let here : from ≡ min end (max c.args.at (8 * i)) = omega arith in
-    let next : min end (max c.args.at (8 * (i + 1))) ≡ to = omega arith in
-    let low : 8 - (8 * i + 8 - to + (to - from)) ≡ from - 8 * i = omega arith in
-    let byte = c.patched.ensures ∙ ap (λ (k : ℕ). laid k (word (to - from) (value / 2 ^ (end - to))) (word 8 (get_or bytes i 0))) low in
-    ap (λ p. laid p (word (end - p) value) (bits_of (set bytes i c.patched.result))) next
-    ∙ lay-more bytes _ i from to end c.patched.result value (omega arith) (omega arith) (omega arith) (omega arith) (omega arith) (omega arith) byte refl
-    ∙ ap (λ p. laid p (word (end - p) value) (bits_of bytes)) here ∙ c.loop-i.invariant
+    let at = c.args.at in
+    let l = c.loop-i in
+    let left = l.left - c.min-n.result in
+    let next : max at (8 * (l.i + 1)) ≡ max at (8 * l.i) + c.min-n.result = omega arith in
+    let turn = lay-part l.bytes _ at (at + c.args.width) l.i l.left l.free c.min-n.result c.patched.result c.args.value (omega arith) (omega arith) (omega arith) l.invariant.0 l.invariant.1 (omega arith) c.patched.ensures refl in
+    (omega arith, omega arith, ap (λ p. laid p (word left c.args.value) (bits_of (set l.bytes l.i c.patched.result))) next ∙ turn ∙ l.invariant.2)
+
+pub returns-then-left-eq0 : goal.returns-then-left-eq0
+returns-then-left-eq0 c =
+    let at = c.args.at in
+    let l = c.loop-i in
+    let turn = lay-part l.bytes _ at (at + c.args.width) l.i l.left l.free c.min-n.result c.patched.result c.args.value (omega arith) (omega arith) (omega arith) l.invariant.0 l.invariant.1 (omega arith) c.patched.ensures refl in
+    sym (lay-none _ _ _ c.args.value (omega arith)) ∙ turn ∙ l.invariant.2
