@@ -1,4 +1,3 @@
 pub mod Cells
-pub mod Filtering
 pub mod Going
 pub mod Appending

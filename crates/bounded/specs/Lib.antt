@@ -1,4 +1,3 @@
 pub mod Bounded
 pub mod Places
-pub mod Tests
 pub mod Values

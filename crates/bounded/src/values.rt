@@ -6,8 +6,8 @@ ghost use Rattle.bounded.specs.Values.{coming};
 
 use crate::Bounded;
 
-// Those from a place on: by place and no chain over the array. A loop over them needs no answer of its own, since what
-// is still to come is a part of the list; a loop over `iter().flatten()`, as in edits.rt, does.
+// Those from a place on: by place and no chain over the array. A loop over them needs no answer for the going over,
+// since what is still to come is a part of the list; a loop over `iter().flatten()`, as in edits.rt, does.
 #[derive(Clone, Copy)]
 pub struct Values<T: Copy, const N: usize> {
     list: Bounded<T, N>,

@@ -4,3 +4,4 @@ pub mod PackingLaws
 pub mod Packings
 pub mod TableLaws
 pub mod Tables
+pub mod Tests

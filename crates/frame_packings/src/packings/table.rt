@@ -1,10 +1,13 @@
 // The packings in force: which of them are kept, one more among them, and a payload that brings one back.
-ghost use Rattle.std.specs.Prelude.{◌≡◌, false, filter, nat_lt};
+ghost use Rattle.std.specs.Prelude.{◌≡◌, Bool, false, filter, nat_lt};
+ghost use Rattle.std.specs.Fn.{CalledAt};
 ghost use Rattle.std.specs.List.{slice_get};
+ghost use Rattle.std.specs.List.Retain.{IsFiltered};
 ghost use Rattle.bounded.specs.Bounded.{items};
 ghost use Rattle.kinds.specs.Outcome.{looked};
 ghost use Rattle.frame_packings.specs.Packings.{outlasts, full, joined};
 ghost use Rattle.frame_packings.specs.Tables.{packed_of, meaning_of, handed_out, part_of};
+ghost use Rattle.frame_packings.specs.Tests.{Tests};
 ghost use Rattle.frame_packings.specs.Meaning.{meaning};
 
 use crate::packing::Packing;
@@ -30,7 +33,7 @@ impl FramePackings {
     pub(super) fn end_once(&mut self)
         ensures { meaning self.new ≡ filter outlasts (meaning self.old) }
     {
-        self.table.retain(|packing| packing.stay() == Stay::Stays);
+        self.table = kept(&self.table, |packing| packing.stay() == Stay::Stays);
     }
 
     // Whether four packings of other ids are in force.
@@ -55,12 +58,13 @@ impl FramePackings {
     }
 
     // Those of lower and those of higher ids.
+    #[inline(always)]
     fn around(&self, id: u32) -> (Bounded<Packing, 4>, Bounded<Packing, 4>)
         ensures lower { items result.0 ≡ filter (λ p. nat_lt p.id.number id) (items self.now.table) }
         ensures higher { items result.1 ≡ filter (λ p. nat_lt id p.id.number) (items self.now.table) }
     {
-        let lower = self.table.kept(|packing| packing.id.number < id);
-        let higher = self.table.kept(|packing| packing.id.number > id);
+        let lower = kept(&self.table, |packing| packing.id.number < id);
+        let higher = kept(&self.table, |packing| packing.id.number > id);
         (lower, higher)
     }
 
@@ -74,4 +78,21 @@ impl FramePackings {
         let packing = self.table.get(n).ok_or(LookFault::Missing)?;
         Ok(packing.message().write(buffer)?)
     }
+}
+
+// Those of a table at which `keep` answers `true`, in their order; `tested` says it of a closure that is a test.
+// `IsAlwaysCallable` is what the language asks of each function that calls a closure.
+#[inline(always)]
+fn kept<F: FnMut(&Packing) -> bool>(table: &Bounded<Packing, 4>, mut keep: F) -> Bounded<Packing, 4>
+    requires { F.IsAlwaysCallable keep }
+    ensures filtered { IsFiltered (CalledAt F.FnMut) keep (items table.now) (items result) }
+    ensures tested { (test : Packing → Bool) → Tests (CalledAt F.FnMut) keep test → items result ≡ filter test (items table.now) }
+{
+    let mut kept = Bounded::new();
+    for packing in *table {
+        if keep(&packing) {
+            let _ = kept.push(packing);
+        }
+    }
+    kept
 }
