@@ -1,12 +1,13 @@
 // The messages of a unit, printed one after the other.
 use crate::session::front;
-use crate::tell::behind_blank;
+use crate::tell::gap_before;
 use layouts::fault::Told;
+use script::hex::encode;
 use script::line::UnitBytes;
 use std::io;
 use units::fault::UnitFault;
 use units::fill::{LONGEST, fill};
-use units::frame::{Message, Messages};
+use units::frame::Messages;
 use units::source::{Clean, Source};
 use units::unescaped::Unescaped;
 
@@ -26,21 +27,32 @@ fn show_unit<X: Source + Drop>(rt: &HostRuntime, mut source: X) -> io::Result<()
     }
 }
 
-// Judges the frame, and prints each message with its type, its place and its payload.
+// Judges the frame, and prints each message with its type, its place and its payload. Nothing but a payload's text is kept:
+// a unit has up to 32,767 messages.
 fn show_messages(rt: &HostRuntime, bytes: &[u8]) -> io::Result<()> {
-    let messages: Vec<Message> = match Messages::new(bytes) {
-        Ok(messages) => messages.collect(rt.alloc())?,
+    let messages = match Messages::new(bytes) {
+        Ok(messages) => messages,
         Err(fault) => return show_refusal(rt, fault),
     };
-    let total = messages.len();
+    let total = count(messages);
     print!(rt; "frame: {total} messages")?;
     for message in messages {
         let kind = message.kind;
         let place = message.place;
-        let payload = behind_blank(rt, message.payload)?;
-        print!(rt; "; {kind} at {place}:{payload}")?;
+        let gap = gap_before(message.payload);
+        let payload = encode(rt.alloc(), message.payload)?;
+        print!(rt; "; {kind} at {place}:{gap}{payload}")?;
     }
     println!(rt; "")
+}
+
+// How many messages are to come. The iterator's own `count` asks that they are known to fit 64 bits.
+fn count(messages: Messages) -> usize {
+    let mut count: usize = 0;
+    for _ in messages {
+        count = count.saturating_add(1);
+    }
+    count
 }
 
 fn show_refusal(rt: &HostRuntime, fault: UnitFault) -> io::Result<()> {

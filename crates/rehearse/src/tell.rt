@@ -4,7 +4,6 @@ use book::answer::{Answer, Saved, Tally};
 use kinds::fault::Offered;
 use layouts::fault::Told;
 use script::hex::encode;
-use std::alloc::AllocError;
 use std::io;
 use visit::serve::{Call, Request};
 
@@ -66,8 +65,10 @@ fn tell_look(
 ) -> io::Result<()> {
     match answer {
         Some(Answer::Look(Ok(len))) => {
-            let bytes = behind_blank(rt, front(buffer, len))?;
-            println!(rt; "look {kind} {n}: {len} bytes{bytes}")
+            let front = front(buffer, len);
+            let gap = gap_before(front);
+            let bytes = encode(rt.alloc(), front)?;
+            println!(rt; "look {kind} {n}: {len} bytes{gap}{bytes}")
         }
         Some(Answer::Look(Err(refusal))) => println!(rt; "look {kind} {n}: {refusal}"),
         _ => Ok(()),
@@ -77,19 +78,17 @@ fn tell_look(
 fn tell_catch_up(rt: &HostRuntime, buffer: &[u8], answer: Option<Answer>) -> io::Result<()> {
     match answer {
         Some(Answer::CatchUp(Ok(Saved { len, messages }))) => {
-            let bytes = behind_blank(rt, front(buffer, len))?;
-            println!(rt; "catch-up: {len} bytes, {messages} messages{bytes}")
+            let front = front(buffer, len);
+            let gap = gap_before(front);
+            let bytes = encode(rt.alloc(), front)?;
+            println!(rt; "catch-up: {len} bytes, {messages} messages{gap}{bytes}")
         }
         Some(Answer::CatchUp(Err(refusal))) => println!(rt; "catch-up: {refusal}"),
         _ => Ok(()),
     }
 }
 
-// Bytes as hex behind a blank, and nothing where there are none.
-pub fn behind_blank(rt: &HostRuntime, bytes: &[u8]) -> Result<String, AllocError> {
-    let text = encode(rt.alloc(), bytes)?;
-    if text.is_empty() {
-        return Ok(text);
-    }
-    format!(in rt.alloc(); " {text}")
+// What stands before bytes that are printed as hex: a blank, and nothing where there are none.
+pub fn gap_before(bytes: &[u8]) -> &'static str {
+    if bytes.is_empty() { "" } else { " " }
 }

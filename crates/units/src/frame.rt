@@ -23,8 +23,8 @@ pub struct Message<'a> {
     pub payload: &'a [u8],
 }
 
-// The messages of a unit, from a place on.
-#[derive(Drop)]
+// The messages of a unit, from a place on. It can be copied, so that a frame that was judged once is gone over twice.
+#[derive(Clone, Copy)]
 pub struct Messages<'a> {
     // the bytes before the last
     body: &'a [u8],
