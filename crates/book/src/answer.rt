@@ -13,7 +13,7 @@ pub struct Tally {
 
 // How many bytes a catch-up has, and of how many messages it is. No `Size` of `sets`, which is a sum that grows, and counts
 // the bytes without the unit's last one.
-#[derive(Clone, Copy)]
+#[derive(Clone, Copy, PartialEq, Eq, Debug, Default)]
 pub struct Saved {
     pub len: usize,
     pub messages: usize,
