@@ -45,13 +45,15 @@ fn count_at(bytes: &[u8], at: usize) -> Option<Count>
     ensures { Counts result bytes.now at }
 {
     let mut value: u32 = 0;
-    for (i, byte) in bytes.get(at..)?.iter().enumerate() {
+    let mut next = at;
+    // the place behind goes along: by `enumerate` each count costs more
+    for byte in bytes.get(at..)? {
         value += u32::from(*byte);
+        next += 1;
         if value > GREATEST {
             return None;
         }
         if *byte < 255 {
-            let next = at + i + 1;
             return Some(Count { value, next });
         }
     }
