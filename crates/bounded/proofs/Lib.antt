@@ -1,3 +1,4 @@
 pub mod Cells
+pub mod Filtering
 pub mod Going
 pub mod Appending

@@ -1,3 +1,4 @@
 pub mod Bounded
 pub mod Places
+pub mod Tests
 pub mod Values

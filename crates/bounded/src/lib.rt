@@ -9,6 +9,8 @@ use std::alloc::AllocError;
 mod edits;
 mod methods;
 mod reads;
+#[cfg(test)]
+mod tests;
 pub mod values;
 
 // The first `len` places hold a value each, and the others none. The library's `ArrayVec` is not `Copy`, and asks for

@@ -81,7 +81,8 @@ impl FramePackings {
 }
 
 // Those of a table at which `keep` answers `true`, in their order; `tested` says it of a closure that is a test.
-// `IsAlwaysCallable` is what the language asks of each function that calls a closure.
+// `IsAlwaysCallable` is what the language asks of each function that calls a closure. By `Bounded::kept`, which goes over
+// free places too, a picture with nothing in force takes a quarter more time.
 #[inline(always)]
 fn kept<F: FnMut(&Packing) -> bool>(table: &Bounded<Packing, 4>, mut keep: F) -> Bounded<Packing, 4>
     requires { F.IsAlwaysCallable keep }
